@@ -1,0 +1,24 @@
+-- `store`: a place past the end is no place of the list, so `set` changes nothing either. Assumes nothing.
+use mathlib.Core.Path.{sym}
+use borrow.Author.Needs.{needs}
+use lib.Seq.{set-out}
+use Rattle.formula.proofs.store.Statement.{statement}
+use Rattle.formula.proofs.store.Tie as tie
+
+mul-f : tie.Need-mul-f
+mul-f c = search needs
+
+slice-write-f : tie.Need-slice-write-f
+slice-write-f c = search needs
+
+same-length : tie.Need-same-length
+same-length c = search needs
+
+returns : tie.Need-returns
+returns c = search needs
+
+returns-2 : tie.Need-returns-2
+returns-2 c = sym (set-out _ _ _ (c .if1 .left))
+
+pub store-spec : {M : Type 1} → statement M
+store-spec = tie.close (tie.spec mul-f slice-write-f same-length returns returns-2)
