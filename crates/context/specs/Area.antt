@@ -1,0 +1,50 @@
+-- Records of the work area as lists of numbers, and the area after the code's moves. Assumes nothing.
+use Prim.Native.Nat.{ℕ, zero, suc, _+_, _-_, _*_, _%_}
+use mathlib.Core.List.{List, [], _∷_}
+use lib.ListN.{getD, set}
+use Rattle.context.specs.declared.Sequent.{Sequent}
+use Rattle.context.specs.Moves.{stretch}
+
+-- a record: a formula's index and a term's; a read out of range gives the empty list
+abbrev pub Rec : Type 0
+Rec = List ℕ
+
+abbrev pub none : Rec
+none = []
+
+abbrev pub rec : ℕ → ℕ → Rec
+rec a x = a % 65536 ∷ x % 65536 ∷ []
+
+abbrev pub formulaAt : List Rec → ℕ → ℕ
+formulaAt w i = getD (getD w i none) 0 0
+
+abbrev pub termAt : List Rec → ℕ → ℕ
+termAt w i = getD (getD w i none) 1 0
+
+-- n records from i on, copied a level up
+unfoldable pub copies : ℕ → ℕ → List Rec → List Rec
+copies zero i w = w
+copies (suc n) i w = copies n (i + 1) (set w (i + stretch) (getD w i none))
+
+-- the n records after place i, each one place down
+unfoldable pub shifts : ℕ → ℕ → List Rec → List Rec
+shifts zero i w = w
+shifts (suc n) i w = shifts n (i + 1) (set w i (getD w (i + 1) none))
+
+-- the records in use, copied a level up
+unfoldable pub raised : List Rec → Sequent → List Rec
+raised w q = copies (q .ordered) (q .level * stretch + stretch - q .ordered) (copies (q .unordered) (q .level * stretch) w)
+
+-- unordered record i taken out
+unfoldable pub removed : List Rec → Sequent → ℕ → List Rec
+removed w q i = shifts (q .unordered - 1 - i) (q .level * stretch + i) w
+
+-- where a record is pushed and appended, and where the last ordered one lies
+abbrev pub pushPlace : Sequent → ℕ
+pushPlace q = q .level * stretch + stretch - 1 - q .ordered
+
+abbrev pub appendPlace : Sequent → ℕ
+appendPlace q = q .level * stretch + q .unordered
+
+abbrev pub topPlace : Sequent → ℕ
+topPlace q = q .level * stretch + stretch - q .ordered
