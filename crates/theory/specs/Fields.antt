@@ -28,3 +28,14 @@ bits (w ∷ widths) c = w + bits widths c
 pub data InWidths (r : ℕ) : List ℕ → List ℕ → Type 0 where
   left : InWidths r [] (r ∷ [])
   field : {w f : ℕ} {widths fs : List ℕ} → f < 2 ^ w → InWidths r widths fs → InWidths r (w ∷ widths) (f ∷ fs)
+
+-- a formula word: kind in the low 4 bits, left in the next 14, right above them
+abbrev pub wordWidths : List ℕ
+wordWidths = 4 ∷ 14 ∷ []
+
+-- the house file's little-endian numbers of 16 and of 32 bits: bytes, the last above the others
+abbrev pub shortWidths : List ℕ
+shortWidths = 8 ∷ []
+
+abbrev pub longWidths : List ℕ
+longWidths = 8 ∷ 8 ∷ 8 ∷ []

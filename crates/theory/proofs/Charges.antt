@@ -1,0 +1,83 @@
+-- A step, a charge and the nodes alone: the tests pass and the search goes on, or there is a shortage. Assumes nothing.
+use Prim.Native.Nat.{ℕ, suc, _+_}
+use mathlib.Core.Bool.{Bool, true, false}
+use mathlib.Core.Option.{Option, none, some}
+use mathlib.Core.List.{List, _++_}
+use lib.Dec.{T}
+use lib.ListN.{length}
+use Rattle.theory.specs.Form.{Book}
+use Rattle.theory.specs.Term.{Node}
+use Rattle.theory.specs.Meter.{fits, Limits, Lack, Steps, Names, Formulas, Terms, Contexts, Levels, Sequent, State, Answer, short}
+use Rattle.theory.specs.Meter.{count, lacking, charge, spend, enter}
+
+-- the state after a charge, and after a try that gave its formulas and terms back
+abbrev pub made : State → ℕ → Book → List Node → State
+made s u ws ns = record { words = s .words ++ ws; nodes = s .nodes ++ ns; used = u; steps = s .steps }
+
+abbrev pub restart : State → ℕ → ℕ → State
+restart s u n = record { words = s .words; nodes = s .nodes; used = u; steps = n }
+
+-- the state after nodes alone, and after a step
+abbrev pub noded : State → List Node → State
+noded s ns = record { words = s .words; nodes = s .nodes ++ ns; used = s .used; steps = s .steps }
+
+abbrev pub entered : State → State
+entered s = record { words = s .words; nodes = s .nodes; used = s .used; steps = suc (s .steps) }
+
+-- what the tests of a charge say where they pass
+pub record Paid (L : Limits) (u : ℕ) (vs : Book) (ns : List Node) (q : Sequent) (s : State) : Type 0 where
+  pub names : T (fits (L .names) u)
+  pub formulas : T (fits (L .formulas) (length (s .words) + length vs))
+  pub terms : T (fits (L .terms) (length (s .nodes) + length ns))
+  pub contexts : T (fits (L .contexts) (count q))
+  pub levels : T (fits (L .levels) (q .level))
+
+-- what holds of a shortage, and of two ways to go on where the tests pass, holds of the two searches; one search is the case of equal ways
+module _ (L : Limits) (P : Answer → Answer → Type 0) (shortage : (l : Lack) (n : ℕ) → P (short l n) (short l n)) where
+  pub at-charge : (u : ℕ) (vs : Book) (ns : List Node) (q : Sequent) (s : State) (k k′ : State → Answer) →
+      (Paid L u vs ns q s → P (k (made s u vs ns)) (k′ (made s u vs ns))) → P (charge L u vs ns q s k) (charge L u vs ns q s k′)
+  unfolding charge lacking
+  at-charge u vs ns q s k k′ f =
+      go (fits (L .names) u) (fits (L .formulas) (length (s .words) + length vs)) (fits (L .terms) (length (s .nodes) + length ns))
+      (fits (L .contexts) (count q)) (fits (L .levels) (q .level))
+      λ a b c d e. f (record { names = a; formulas = b; terms = c; contexts = d; levels = e })
+    where
+      test : Bool → Lack → Option Lack → Option Lack
+      test b l o = elim b [ false ↦ some l | true ↦ o ]
+
+      out : (State → Answer) → Option Lack → Answer
+      out k o = elim o [ none ↦ k (made s u vs ns) | some l ↦ short l (s .steps) ]
+
+      tests : Bool → Bool → Bool → Bool → Bool → Option Lack
+      tests a b c d e = test a Names (test b Formulas (test c Terms (test d Contexts (test e Levels none))))
+
+      go : (a b c d e : Bool) → (T a → T b → T c → T d → T e → P (k (made s u vs ns)) (k′ (made s u vs ns))) →
+          P (out k (tests a b c d e)) (out k′ (tests a b c d e))
+      go false b c d e f = shortage Names (s .steps)
+      go true false c d e f = shortage Formulas (s .steps)
+      go true true false d e f = shortage Terms (s .steps)
+      go true true true false e f = shortage Contexts (s .steps)
+      go true true true true false f = shortage Levels (s .steps)
+      go true true true true true f = f tt tt tt tt tt
+
+  pub at-nodes : (ns : List Node) (s : State) (k k′ : State → Answer) →
+      (T (fits (L .terms) (length (s .nodes) + length ns)) → P (k (noded s ns)) (k′ (noded s ns))) → P (spend L ns s k) (spend L ns s k′)
+  unfolding spend
+  at-nodes ns s k k′ f = go (fits (L .terms) (length (s .nodes) + length ns)) f
+    where
+      go : (b : Bool) → (T b → P (k (noded s ns)) (k′ (noded s ns))) →
+          P (elim b [ true ↦ k (noded s ns) | false ↦ short Terms (s .steps) ])
+          (elim b [ true ↦ k′ (noded s ns) | false ↦ short Terms (s .steps) ])
+      go true f = f tt
+      go false f = shortage Terms (s .steps)
+
+  pub at-step : (s : State) (k k′ : State → Answer) → (T (fits (L .steps) (suc (s .steps))) → P (k (entered s)) (k′ (entered s))) →
+      P (enter L s k) (enter L s k′)
+  unfolding enter
+  at-step s k k′ f = go (fits (L .steps) (suc (s .steps))) f
+    where
+      go : (b : Bool) → (T b → P (k (entered s)) (k′ (entered s))) →
+          P (elim b [ true ↦ k (entered s) | false ↦ short Steps (s .steps) ])
+          (elim b [ true ↦ k′ (entered s) | false ↦ short Steps (s .steps) ])
+      go true f = f tt
+      go false f = shortage Steps (s .steps)
