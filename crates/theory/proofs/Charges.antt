@@ -1,8 +1,11 @@
 -- A step, a charge and the nodes alone: the tests pass and the search goes on, or there is a shortage. Assumes nothing.
 use Prim.Native.Nat.{ℕ, suc, _+_}
+use mathlib.Core.Path.{_≡_, refl}
+use mathlib.Core.Logic.{_≢_}
 use mathlib.Core.Bool.{Bool, true, false}
 use mathlib.Core.Option.{Option, none, some}
 use mathlib.Core.List.{List, _++_}
+use native.Mathlib.Omega.{arith}
 use lib.Dec.{T}
 use lib.ListN.{length}
 use Rattle.theory.specs.Form.{Book}
@@ -32,12 +35,13 @@ pub record Paid (L : Limits) (u : ℕ) (vs : Book) (ns : List Node) (q : Sequent
   pub contexts : T (fits (L .contexts) (count q))
   pub levels : T (fits (L .levels) (q .level))
 
--- what holds of a shortage, and of two ways to go on where the tests pass, holds of the two searches; one search is the case of equal ways
-module _ (L : Limits) (P : Answer → Answer → Type 0) (shortage : (l : Lack) (n : ℕ) → P (short l n) (short l n)) where
+-- what holds of the shortage, and of two ways to go on where the tests pass, holds of the two searches; one search is the case of equal ways
+module _ (L : Limits) (P : Answer → Answer → Type 0) where
   pub at-charge : (u : ℕ) (vs : Book) (ns : List Node) (q : Sequent) (s : State) (k k′ : State → Answer) →
+      ((l : Lack) → l ≢ Steps → P (short l (s .steps)) (short l (s .steps))) →
       (Paid L u vs ns q s → P (k (made s u vs ns)) (k′ (made s u vs ns))) → P (charge L u vs ns q s k) (charge L u vs ns q s k′)
   unfolding charge lacking
-  at-charge u vs ns q s k k′ f =
+  at-charge u vs ns q s k k′ shortage f =
       go (fits (L .names) u) (fits (L .formulas) (length (s .words) + length vs)) (fits (L .terms) (length (s .nodes) + length ns))
       (fits (L .contexts) (count q)) (fits (L .levels) (q .level))
       λ a b c d e. f (record { names = a; formulas = b; terms = c; contexts = d; levels = e })
@@ -53,31 +57,32 @@ module _ (L : Limits) (P : Answer → Answer → Type 0) (shortage : (l : Lack) 
 
       go : (a b c d e : Bool) → (T a → T b → T c → T d → T e → P (k (made s u vs ns)) (k′ (made s u vs ns))) →
           P (out k (tests a b c d e)) (out k′ (tests a b c d e))
-      go false b c d e f = shortage Names (s .steps)
-      go true false c d e f = shortage Formulas (s .steps)
-      go true true false d e f = shortage Terms (s .steps)
-      go true true true false e f = shortage Contexts (s .steps)
-      go true true true true false f = shortage Levels (s .steps)
+      go false b c d e f = shortage Names (λ p. let z : _≡_ {A = ℕ} 0 1 = cc in omega arith)
+      go true false c d e f = shortage Formulas (λ p. let z : _≡_ {A = ℕ} 0 1 = cc in omega arith)
+      go true true false d e f = shortage Terms (λ p. let z : _≡_ {A = ℕ} 0 1 = cc in omega arith)
+      go true true true false e f = shortage Contexts (λ p. let z : _≡_ {A = ℕ} 0 1 = cc in omega arith)
+      go true true true true false f = shortage Levels (λ p. let z : _≡_ {A = ℕ} 0 1 = cc in omega arith)
       go true true true true true f = f tt tt tt tt tt
 
-  pub at-nodes : (ns : List Node) (s : State) (k k′ : State → Answer) →
+  pub at-nodes : (ns : List Node) (s : State) (k k′ : State → Answer) → P (short Terms (s .steps)) (short Terms (s .steps)) →
       (T (fits (L .terms) (length (s .nodes) + length ns)) → P (k (noded s ns)) (k′ (noded s ns))) → P (spend L ns s k) (spend L ns s k′)
   unfolding spend
-  at-nodes ns s k k′ f = go (fits (L .terms) (length (s .nodes) + length ns)) f
+  at-nodes ns s k k′ shortage f = go (fits (L .terms) (length (s .nodes) + length ns)) f
     where
       go : (b : Bool) → (T b → P (k (noded s ns)) (k′ (noded s ns))) →
           P (elim b [ true ↦ k (noded s ns) | false ↦ short Terms (s .steps) ])
           (elim b [ true ↦ k′ (noded s ns) | false ↦ short Terms (s .steps) ])
       go true f = f tt
-      go false f = shortage Terms (s .steps)
+      go false f = shortage
 
-  pub at-step : (s : State) (k k′ : State → Answer) → (T (fits (L .steps) (suc (s .steps))) → P (k (entered s)) (k′ (entered s))) →
-      P (enter L s k) (enter L s k′)
+  pub at-step : (s : State) (k k′ : State → Answer) →
+      (fits (L .steps) (suc (s .steps)) ≡ false → P (short Steps (s .steps)) (short Steps (s .steps))) →
+      (T (fits (L .steps) (suc (s .steps))) → P (k (entered s)) (k′ (entered s))) → P (enter L s k) (enter L s k′)
   unfolding enter
-  at-step s k k′ f = go (fits (L .steps) (suc (s .steps))) f
+  at-step s k k′ = go (fits (L .steps) (suc (s .steps)))
     where
-      go : (b : Bool) → (T b → P (k (entered s)) (k′ (entered s))) →
+      go : (b : Bool) → (b ≡ false → P (short Steps (s .steps)) (short Steps (s .steps))) → (T b → P (k (entered s)) (k′ (entered s))) →
           P (elim b [ true ↦ k (entered s) | false ↦ short Steps (s .steps) ])
           (elim b [ true ↦ k′ (entered s) | false ↦ short Steps (s .steps) ])
-      go true f = f tt
-      go false f = shortage Steps (s .steps)
+      go true shortage f = f tt
+      go false shortage f = shortage refl

@@ -1,146 +1,183 @@
--- What a search makes stays within its limits, stands after the given words, and a shortage of steps comes at the limit. Assumes nothing.
-use Prim.Native.Nat.{ℕ, suc, _+_}
+-- A search that starts within its limits stays within them, in what it asks and in what it makes after the given words; and a shortage of
+-- steps comes at the limit. Assumes nothing.
+use Prim.Native.Nat.{ℕ, suc, _≤_}
 use mathlib.Core.Path.{_≡_, refl, sym, ap, _∙_, subst}
-use mathlib.Core.Bool.{Bool, true, false}
-use mathlib.Core.Option.{Option, none, some}
+use mathlib.Core.Bool.{false}
 use mathlib.Core.List.{List, [], _∷_, _++_, append-nil, append-assoc}
+use native.Mathlib.Nat.{le-trans}
 use native.Mathlib.Omega.{arith}
-use lib.Dec.{T}
+use lib.Dec.{T, leb→le, le→leb}
 use lib.ListN.{length, length-append}
 use Rattle.theory.specs.Form.{Book}
 use Rattle.theory.specs.Term.{Node}
 use Rattle.theory.specs.Names.{skipped}
 use Rattle.theory.specs.World.{Tree}
-use Rattle.theory.specs.Meter.{fits, Limits, Lack, Steps, Names, Formulas, Terms, Contexts, Levels, Sequent, State, Answer, found}
-use Rattle.theory.specs.Meter.{failed, short, unfinished, count, andThen, attempt, lacking, charge, spend, enter, fail, limited}
-use Rattle.theory.specs.Search.{given, prove}
-use Rattle.theory.proofs.Post.{made, restart}
-use Rattle.theory.proofs.Carried.{AllImply, Carried, carried}
+use Rattle.theory.specs.Meter.{Bound, upTo, free, fits, Limits, Lack, Steps, Sequent, State, Answer, found, failed, short, unfinished}
+use Rattle.theory.specs.Meter.{Judgement, Ask, count, andThen, attempt, charge, spend, enter, fail, limited, Within, Room}
+use Rattle.theory.specs.Search.{rule, run, given, prove}
+use Rattle.theory.proofs.Charges.{made, noded, entered, restart, at-charge, at-nodes, at-step}
+use Rattle.theory.proofs.Alike.{AllImply, Alike, alike, a-rule, a-run}
+
+-- where a number fits a limit, a smaller one does
+pub fits-down : (b : Bound) {k n : ℕ} → k ≤ n → T (fits b n) → T (fits b k)
+unfolding fits
+fits-down (upTo m) {k} {n} h t = le→leb k m (le-trans h (leb→le n m t))
+fits-down free h t = tt
 
 imply-append : (ws vs : Book) → AllImply ws → AllImply vs → AllImply (ws ++ vs)
 imply-append [] vs h g = g
 imply-append (w ∷ ws) vs h g = (h .0, imply-append ws vs (h .1) g)
 
--- of a test with two ways out, the one that is taken
-pick : (P : Answer → Type 0) (b : Bool) (x y : Answer) → (T b → P x) → (b ≡ false → P y) → P (elim b [ true ↦ x | false ↦ y ])
-pick P true x y f g = f tt
-pick P false x y f g = g refl
-
 module _ (L : Limits) (ws₀ : Book) where
   -- a state within the limits; its words are the given ones and implications after them
-  pub record Within (s : State) : Type 0 where
-    pub steps : T (fits (L .steps) (s .steps))
-    pub names : T (fits (L .names) (s .used))
-    pub formulas : T (fits (L .formulas) (length (s .words)))
-    pub terms : T (fits (L .terms) (length (s .nodes)))
+  pub record Kept (s : State) : Type 0 where
+    pub within : Within L s
     pub more : Book
     pub is : s .words ≡ ws₀ ++ more
     pub imply : AllImply more
 
   -- an answer within the limits; the steps of a shortage of steps are the last that fit
   pub data Bounded : Answer → Type 0 where
-    b-found : {t : ℕ} {s : State} → Within s → Bounded (found t s)
+    b-found : {t : ℕ} {s : State} → Kept s → Bounded (found t s)
     b-failed : {u n : ℕ} {m : Tree} → T (fits (L .steps) n) → T (fits (L .names) u) → Bounded (failed u n m)
     b-short : {l : Lack} {n : ℕ} → T (fits (L .steps) n) → (l ≡ Steps → fits (L .steps) (suc n) ≡ false) → Bounded (short l n)
     b-unfinished : Bounded unfinished
 
+  -- equal answers within the limits
+  record Same (a b : Answer) : Type 0 where
+    same : a ≡ b
+    bounded : Bounded a
+
+  one : {a : Answer} → Bounded a → Same a a
+  one b = record { same = refl; bounded = b }
+
   -- with other steps and indices
-  later : {s : State} → Within s → (n u : ℕ) → T (fits (L .steps) n) → T (fits (L .names) u) → Within (restart s u n)
-  later i n u a b =
-      record { steps = a; names = b; formulas = i .formulas; terms = i .terms; more = i .more; is = i .is; imply = i .imply }
+  later : {s : State} → Kept s → (n u : ℕ) → T (fits (L .steps) n) → T (fits (L .names) u) → Kept (restart s u n)
+  later i n u a b = record {
+    within = record { names = b; formulas = i .within .formulas; terms = i .within .terms; steps = a };
+    more = i .more;
+    is = i .is;
+    imply = i .imply;
+  }
 
-  b-step : (s : State) (k : State → Answer) → Within s → ((s₁ : State) → Within s₁ → Bounded (k s₁)) → Bounded (enter L s k)
-  unfolding enter
-  b-step s k i f = pick Bounded (fits (L .steps) (suc (s .steps))) _ _ (λ t. f _ (later i (suc (s .steps)) (s .used) t (i .names)))
-      (λ e. b-short (i .steps) (λ p. e))
+  same-step : (s : State) (k k′ : State → Answer) → Kept s → ((s₁ : State) → Kept s₁ → Same (k s₁) (k′ s₁)) →
+      Same (enter L s k) (enter L s k′)
+  same-step s k k′ i f =
+      at-step L Same s k k′ (λ e. one (b-short (i .within .steps) (λ p. e)))
+      (λ t. f (entered s) (later i (suc (s .steps)) (s .used) t (i .within .names)))
 
-  b-charge : (u : ℕ) (ws : Book) (ns : List Node) (q : Sequent) (s : State) (k : State → Answer) → AllImply ws → Within s →
-      ((s₁ : State) → Within s₁ → Bounded (k s₁)) → Bounded (charge L u ws ns q s k)
-  unfolding charge lacking
-  b-charge u ws ns q s k a i f =
-      go (fits (L .names) u) (fits (L .formulas) (length (s .words) + length ws)) (fits (L .terms) (length (s .nodes) + length ns))
-      (fits (L .contexts) (count q)) (fits (L .levels) (q .level))
-      (λ t₁ t₂ t₃. f (made s u ws ns) (record {
-        steps = i .steps;
-        names = t₁;
-        formulas = subst (λ (n : ℕ). T (fits (L .formulas) n)) (sym (length-append (s .words) ws)) t₂;
-        terms = subst (λ (n : ℕ). T (fits (L .terms) n)) (sym (length-append (s .nodes) ns)) t₃;
-        more = i .more ++ ws;
-        is = ap (λ (z : Book). z ++ ws) (i .is) ∙ append-assoc ws₀ (i .more) ws;
-        imply = imply-append (i .more) ws (i .imply) a;
-      }))
-    where
-      test : Bool → Lack → Option Lack → Option Lack
-      test b l o = elim b [ false ↦ some l | true ↦ o ]
+  -- a charge tests the state and the sequent that it leads to
+  same-charge : (u : ℕ) (vs : Book) (ns : List Node) (q : Sequent) (s : State) (k k′ : State → Answer) → Kept s → AllImply vs →
+      ((s₁ : State) → Kept s₁ → Room L q → Same (k s₁) (k′ s₁)) → Same (charge L u vs ns q s k) (charge L u vs ns q s k′)
+  same-charge u vs ns q s k k′ i v f =
+      at-charge L Same u vs ns q s k k′ (λ l n. one (b-short (i .within .steps) (λ p. absurd (n p))))
+      λ p. f (made s u vs ns)
+      (record {
+        within = record {
+          names = p .names;
+          formulas = subst (λ (n : ℕ). T (fits (L .formulas) n)) (sym (length-append (s .words) vs)) (p .formulas);
+          terms = subst (λ (n : ℕ). T (fits (L .terms) n)) (sym (length-append (s .nodes) ns)) (p .terms);
+          steps = i .within .steps;
+        };
+        more = i .more ++ vs;
+        is = ap (λ (b : Book). b ++ vs) (i .is) ∙ append-assoc ws₀ (i .more) vs;
+        imply = imply-append (i .more) vs (i .imply) v;
+      })
+      (record { contexts = p .contexts; levels = p .levels })
 
-      out : Option Lack → Answer
-      out o = elim o [ none ↦ k (made s u ws ns) | some l ↦ short l (s .steps) ]
-
-      lacks : (l : Lack) → ¬ (l ≡ Steps) → Bounded (short l (s .steps))
-      lacks l h = b-short (i .steps) (λ p. absurd (h p))
-
-      go : (a b c d e : Bool) → (T a → T b → T c → Bounded (k (made s u ws ns))) →
-          Bounded (out (test a Names (test b Formulas (test c Terms (test d Contexts (test e Levels none))))))
-      go false b c d e f = lacks Names (λ p. let z : _≡_ {A = ℕ} 0 1 = cc in omega arith)
-      go true false c d e f = lacks Formulas (λ p. let z : _≡_ {A = ℕ} 0 1 = cc in omega arith)
-      go true true false d e f = lacks Terms (λ p. let z : _≡_ {A = ℕ} 0 1 = cc in omega arith)
-      go true true true false e f = lacks Contexts (λ p. let z : _≡_ {A = ℕ} 0 1 = cc in omega arith)
-      go true true true true false f = lacks Levels (λ p. let z : _≡_ {A = ℕ} 0 1 = cc in omega arith)
-      go true true true true true f = f tt tt tt
-
-  b-nodes : (ns : List Node) (s : State) (k : State → Answer) → Within s → ((s₁ : State) → Within s₁ → Bounded (k s₁)) →
-      Bounded (spend L ns s k)
-  unfolding spend
-  b-nodes ns s k i f = pick Bounded (fits (L .terms) (length (s .nodes) + length ns)) _ _
-      (λ t. f _ (record {
-        steps = i .steps;
-        names = i .names;
-        formulas = i .formulas;
-        terms = subst (λ (n : ℕ). T (fits (L .terms) n)) (sym (length-append (s .nodes) ns)) t;
+  same-nodes : (ns : List Node) (s : State) (k k′ : State → Answer) → Kept s → ((s₁ : State) → Kept s₁ → Same (k s₁) (k′ s₁)) →
+      Same (spend L ns s k) (spend L ns s k′)
+  same-nodes ns s k k′ i f =
+      at-nodes L Same ns s k k′ (one (b-short (i .within .steps) (λ p. absurd (let z : _≡_ {A = ℕ} 0 1 = cc in omega arith))))
+      λ p. f (noded s ns) (record {
+        within = record {
+          names = i .within .names;
+          formulas = i .within .formulas;
+          terms = subst (λ (n : ℕ). T (fits (L .terms) n)) (sym (length-append (s .nodes) ns)) p;
+          steps = i .within .steps;
+        };
         more = i .more;
         is = i .is;
         imply = i .imply;
-      }))
-      (λ e. b-short (i .steps) (λ p. absurd (let z : _≡_ {A = ℕ} 0 1 = cc in omega arith)))
+      })
 
-  b-premise : (x : Answer) (k : ℕ → State → Answer) → Bounded x → ((t : ℕ) (s : State) → Within s → Bounded (k t s)) →
-      Bounded (andThen x k)
+  same-premise : (a b : Answer) (k k′ : ℕ → State → Answer) → Same a b → ((t : ℕ) (s : State) → Kept s → Same (k t s) (k′ t s)) →
+      Same (andThen a k) (andThen b k′)
   unfolding andThen
-  b-premise x k (b-found {t} {s} i) f = f t s i
-  b-premise x k (b-failed a b) f = b-failed a b
-  b-premise x k (b-short a b) f = b-short a b
-  b-premise x k b-unfinished f = b-unfinished
+  same-premise a b k k′ r f = subst (λ (x : Answer). Same (andThen a k) (andThen x k′)) (r .same) (go (r .bounded))
+    where
+      go : {a : Answer} → Bounded a → Same (andThen a k) (andThen a k′)
+      go (b-found {t} {s} i) = f t s i
+      go (b-failed x y) = one (b-failed x y)
+      go (b-short x y) = one (b-short x y)
+      go b-unfinished = one b-unfinished
 
-  b-try : (s₀ : State) (x : Answer) (k : ℕ → State → Answer) (o : Tree → State → Answer) → Within s₀ → Bounded x →
-      ((t : ℕ) (s : State) → Within s → Bounded (k t s)) → ((m : Tree) (s : State) → Within s → Bounded (o m s)) →
-      Bounded (attempt s₀ x k o)
+  same-try : (s₀ : State) (a b : Answer) (k k′ : ℕ → State → Answer) (o o′ : Tree → State → Answer) → Kept s₀ → Same a b →
+      ((t : ℕ) (s : State) → Kept s → Same (k t s) (k′ t s)) → ((m : Tree) (s : State) → Kept s → Same (o m s) (o′ m s)) →
+      Same (attempt s₀ a k o) (attempt s₀ b k′ o′)
   unfolding attempt
-  b-try s₀ x k o i (b-found {t} {s} j) f g = f t s j
-  b-try s₀ x k o i (b-failed {u} {n} {m} a b) f g = g m (restart s₀ u n) (later i n u a b)
-  b-try s₀ x k o i (b-short a b) f g = b-short a b
-  b-try s₀ x k o i b-unfinished f g = b-unfinished
+  same-try s₀ a b k k′ o o′ i r f g = subst (λ (x : Answer). Same (attempt s₀ a k o) (attempt s₀ x k′ o′)) (r .same) (go (r .bounded))
+    where
+      go : {a : Answer} → Bounded a → Same (attempt s₀ a k o) (attempt s₀ a k′ o′)
+      go (b-found {t} {s} j) = f t s j
+      go (b-failed {u} {n} {m} x y) = g m (restart s₀ u n) (later i n u x y)
+      go (b-short x y) = one (b-short x y)
+      go b-unfinished = one b-unfinished
 
-  b-fail : (m : Tree) (s : State) → Within s → Bounded (fail m s)
+  same-fail : (m : Tree) (s : State) → Kept s → Same (fail m s) (fail m s)
   unfolding fail
-  b-fail m s i = b-failed (i .steps) (i .names)
+  same-fail m s i = one (b-failed (i .within .steps) (i .within .names))
 
-  bounds : Carried (limited L)
-  bounds = record {
-    Inv = Within;
-    Res = Bounded;
-    on-found = λ t s i. b-found i;
-    on-failed = b-fail;
-    on-unfinished = b-unfinished;
-    on-step = b-step;
-    on-charge = b-charge;
-    on-nodes = b-nodes;
-    on-premise = b-premise;
-    on-try = b-try;
+  -- Asked: what is to be known of the sequents that are asked, no more than that they are within the limits
+  keeping : (Asked : Sequent → Type 0) → ((q q′ : Sequent) → count q′ ≤ count q → q′ .level ≡ q .level → Asked q → Asked q′) →
+      ((q : Sequent) → Room L q → Asked q) → Alike (limited L) (limited L)
+  keeping Asked fewer tested = record {
+    Rel = Same;
+    Reached = Kept;
+    Asked = Asked;
+    fewer = fewer;
+    on-found = λ t s i. one (b-found i);
+    on-fail = same-fail;
+    on-unfinished = one b-unfinished;
+    on-step = same-step;
+    on-charge = λ u vs ns q s k k′ i v f. same-charge u vs ns q s k k′ i v (λ s₁ i₁ r. f s₁ i₁ (tested q r));
+    on-nodes = same-nodes;
+    on-premise = same-premise;
+    on-try = same-try;
   }
 
   -- whatever the search answers is within its limits, if what it is given is
-  pub bounded : (names : List (List ℕ)) (d : ℕ) (hs : List ℕ) (g : ℕ) → T (fits (L .steps) 0) → T (fits (L .names) 0) →
-      T (fits (L .formulas) (length ws₀)) → T (fits (L .terms) 0) → Bounded (prove L names d ws₀ hs g)
-  unfolding prove bounds given
-  bounded names d hs g a b c e = carried (limited L) bounds (skipped names) d ws₀ hs g
-      (record { steps = a; names = b; formulas = c; terms = e; more = []; is = sym (append-nil ws₀); imply = tt })
+  pub bounded : (names : List (List ℕ)) (d : ℕ) (hs : List ℕ) (g : ℕ) → Within L (given ws₀) → Bounded (prove L names d ws₀ hs g)
+  unfolding prove given keeping
+  bounded names d hs g start =
+      (alike (limited L) (limited L) (keeping (λ q. Unit {0}) (λ q q′ l e i. tt) (λ q r. tt)) (skipped names) ws₀ hs g
+      (record { within = start; more = []; is = sym (append-nil ws₀); imply = tt }) tt d) .bounded
+
+  pub found-kept : (names : List (List ℕ)) (d : ℕ) (hs : List ℕ) (g : ℕ) → Within L (given ws₀) → (t : ℕ) (s : State) →
+      prove L names d ws₀ hs g ≡ found t s → Kept s
+  found-kept names d hs g start t s e = go (subst Bounded e (bounded names d hs g start))
+    where
+      go : Bounded (found t s) → Kept s
+      go (b-found i) = i
+
+-- a sequent with fewer records at the same level is within the limits too
+room-down : (L : Limits) (q q′ : Sequent) → count q′ ≤ count q → q′ .level ≡ q .level → Room L q → Room L q′
+room-down L q q′ l e i = record {
+  contexts = fits-down (L .contexts) l (i .contexts);
+  levels = subst (λ (n : ℕ). T (fits (L .levels) n)) (sym e) (i .levels);
+}
+
+-- the search asks nothing outside its limits: what would be answered there changes nothing
+pub asks-within : (L : Limits) (taken : List (List ℕ)) (d : ℕ) (ask : Ask Answer) →
+    ((j : Judgement) (q : Sequent) (s : State) → Within L s → Room L q → ask j q s ≡ run (limited L) taken d j q s) →
+    (j : Judgement) (q : Sequent) (s : State) → Within L s → Room L q →
+    rule (limited L) taken ask j q s ≡ rule (limited L) taken (run (limited L) taken d) j q s
+unfolding keeping
+asks-within L taken d ask agree j q s h i =
+    (a-rule (limited L) (limited L) keeps taken ask (run (limited L) taken d)
+    (λ j′ q′ s′ h′ i′. subst (λ (a : Answer). Same L (s .words) a (run (limited L) taken d j′ q′ s′)) (sym (agree j′ q′ s′ (h′ .within) i′))
+    (a-run (limited L) (limited L) keeps taken d j′ q′ s′ h′ i′))
+    q s (record { within = h; more = []; is = sym (append-nil (s .words)); imply = tt }) i j) .same
+  where
+    keeps : Alike (limited L) (limited L)
+    keeps = keeping L (s .words) (Room L) (room-down L) (λ q r. r)
