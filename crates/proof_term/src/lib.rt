@@ -2,10 +2,51 @@
 ghost use mathlib.Core.Path.{_≡_};
 ghost use mathlib.Core.List.{[], _∷_};
 ghost use lib.ListN.{getD, set};
+ghost use Rattle.theory.specs.Layout.{fieldsOf};
+ghost use Rattle.proof_term.specs.Kinds.{fieldsAs};
 ghost use Rattle.proof_term.specs.Put.{low, putNode};
+use Field::Child;
+use Field::Formula;
+use Field::Name;
+use Field::Unused;
 
 // A node is so many numbers: its kind, then its fields.
 pub const WIDTH: usize = 6;
+
+// What a field of a node holds.
+pub enum Field {
+    Name,
+    Child,
+    Formula,
+    Unused,
+}
+
+// What the five fields of a kind hold, in their order; or that there is no such kind.
+pub enum Fields {
+    Held(Field, Field, Field, Field, Field),
+    Refused,
+}
+
+// The one decision over kind numbers, in the order of `ProofTerm`: LetIn (6), Sorry (13) and what lies above are refused.
+pub fn fields_of(kind: usize) -> Fields
+    ensures { λ r. ⌜ fieldsAs r ≡ fieldsOf kind ⌝ }
+{
+    match kind {
+        0 => Fields::Held(Name, Unused, Unused, Unused, Unused),
+        1 => Fields::Held(Child, Child, Unused, Unused, Unused),
+        2 => Fields::Held(Child, Unused, Unused, Unused, Unused),
+        3 => Fields::Held(Child, Unused, Unused, Unused, Unused),
+        4 => Fields::Held(Name, Child, Unused, Unused, Unused),
+        5 => Fields::Held(Child, Child, Unused, Unused, Unused),
+        7 => Fields::Held(Child, Unused, Unused, Unused, Unused),
+        8 => Fields::Held(Child, Unused, Unused, Unused, Unused),
+        9 => Fields::Held(Child, Name, Child, Name, Child),
+        10 => Fields::Held(Child, Unused, Unused, Unused, Unused),
+        11 => Fields::Held(Child, Formula, Unused, Unused, Unused),
+        12 => Fields::Held(Unused, Unused, Unused, Unused, Unused),
+        _ => Fields::Refused,
+    }
+}
 
 // Number i of the nodes; 0 out of range.
 pub fn number(t: &[u16], i: usize) -> usize
