@@ -1,0 +1,27 @@
+-- What is owed after a call, and claims that differ in room alone: the words of the whole call's theorems. Assumes nothing.
+use Prim.Native.Nat.{ℕ, _*_, _≤_}
+use mathlib.Core.Path.{_≡_}
+use mathlib.Core.Bool.{true}
+use lib.Dec.{T}
+use lib.ListN.{length, getD}
+use Rattle.theory.specs.Layout.{nodeWidth}
+use Rattle.theory.specs.Call.{Claim, rightSizes, givenWords, After}
+
+-- "all formula words and term nodes above the fills are zero, and every work record is zero"
+pub record ZeroAbove (a : After) (f t : ℕ) : Type 0 where
+  pub words : (i : ℕ) → f ≤ i → getD (a .words) i 0 ≡ 0
+  pub terms : (i : ℕ) → t * nodeWidth ≤ i → getD (a .terms) i 0 ≡ 0
+  pub records : a .cleared ≡ true
+
+-- the same formulas, assumptions, names and goal, lent at least as much, within row 1
+pub record Grown (x y : Claim) : Type 0 where
+  pub words : givenWords x ≡ givenWords y
+  pub count : x .count ≡ y .count
+  pub assumed : x .assumed ≡ y .assumed
+  pub text : x .text ≡ y .text
+  pub goal : x .goal ≡ y .goal
+  pub formulas : length (x .words) ≤ length (y .words)
+  pub terms : length (x .terms) ≤ length (y .terms)
+  pub records : x .records ≤ y .records
+  pub steps : x .stepLimit ≤ y .stepLimit
+  pub sizes : T (rightSizes y)
