@@ -16,7 +16,7 @@ use Rattle.theory.specs.Refusal.{Fault, Sizes, BadFormula, BadAssumption
 use Rattle.theory.specs.Refusal.{formulaSizes, termSizes, highestLevel, isSome, workSizes, tooMany, outsideFrom, badAssumption}
 use Rattle.theory.specs.Refusal.{badGoal}
 use Rattle.theory.specs.Call.{Claim, rightSizes, givenWords, givenBook, refusal}
-use Rattle.theory.proofs.Leaves.{and-left, and-right}
+use Rattle.theory.proofs.Tests.{and-left, and-right}
 use Rattle.theory.proofs.Words.{decodes}
 
 -- two tests of which none refuses

@@ -2,20 +2,21 @@
 use Prim.Native.Nat.{ℕ, zero, suc, _+_, _-_, _*_, _/_, _≤_}
 use mathlib.Core.Path.{_≡_, refl, sym, ap, _∙_, subst}
 use mathlib.Core.Option.{none}
-use mathlib.Core.List.{List, [], _∷_, _++_, map}
+use mathlib.Core.List.{List, _++_, map}
 use native.Mathlib.Omega.{arith}
 use lib.Dec.{T, leb→le, le→leb}
 use lib.ListN.{length, getD, take, replicate, length-append, length-map, length-replicate}
 use lib.Seq.{take-append-seam, getD-append-add}
 use Rattle.theory.specs.Form.{word}
-use Rattle.theory.specs.Term.{Piece, ident, pair, fst, snd, fn, app, inl, inr, case, abort, asc, unit, Node, sixOf, six}
 use Rattle.theory.specs.NameText.{namesIn, padded}
 use Rattle.theory.specs.Layout.{nodeWidth, inNumbers}
-use Rattle.theory.specs.Meter.{fits, Steps, found, short}
+use Rattle.theory.specs.Search.{given}
+use Rattle.theory.specs.Meter.{Within, fits, Steps, found, short}
 use Rattle.theory.specs.Call.{Claim, refusal, searchLimits, givenWords, givenBook, searched, Outcome, proved, shortage, After}
 use Rattle.theory.specs.Call.{givenBack, unchanged, answered, called}
 use Rattle.theory.specs.Owed.{ZeroAbove}
-use Rattle.theory.proofs.Room.{Within, Bounded, b-found, b-short, bounded}
+use Rattle.theory.proofs.Room.{Kept, Bounded, b-found, b-short, bounded}
+use Rattle.theory.proofs.LayoutLaws.{in-numbers-length}
 use Rattle.theory.proofs.Passing.{Passes, passes}
 use Rattle.theory.proofs.Called.{Proves, RunsShort, Told, t-proved, t-unprovable, t-shortage, t-refused, told}
 
@@ -47,40 +48,19 @@ padded-rest n xs i h =
     ap (λ (k : ℕ). getD (xs ++ zeros (n - length xs)) k 0) p
     ∙ getD-append-add xs (zeros (n - length xs)) (i - length xs) 0 ∙ all-zero (n - length xs) (i - length xs)
 
--- six numbers a node
-six-length : (n : Piece) → length (sixOf n) ≡ nodeWidth
-unfolding sixOf
-six-length (ident x) = refl
-six-length (pair s t) = refl
-six-length (fst t) = refl
-six-length (snd t) = refl
-six-length (fn x t) = refl
-six-length (app s t) = refl
-six-length (inl t) = refl
-six-length (inr t) = refl
-six-length (case h x s y t) = refl
-six-length (abort t) = refl
-six-length (asc t a) = refl
-six-length unit = refl
-
-pub numbers-length : (ns : List Node) → length (inNumbers ns) ≡ length ns * nodeWidth
-unfolding inNumbers six
-numbers-length [] = refl
-numbers-length (n ∷ ns) =
-    let a : length (sixOf (n .piece) ++ inNumbers ns) ≡ length (sixOf (n .piece)) + length (inNumbers ns) =
-    length-append (sixOf (n .piece)) (inNumbers ns) in
-    let b : length (sixOf (n .piece)) ≡ nodeWidth = six-length (n .piece) in
-    let c : length (inNumbers ns) ≡ length ns * nodeWidth = numbers-length ns in
-    omega arith
-
 -- the search of a claim that passes is within its limits
+pub starts-within : (x : Claim) → refusal x ≡ none → Within (searchLimits x) (given (givenBook x))
+unfolding searchLimits fits given
+starts-within x e = let p : Passes x = passes x e in record {
+  names = tt;
+  formulas = le→leb (length (givenBook x)) (length (x .words)) (omega (arith, p .book, p .given));
+  terms = le→leb 0 (length (x .terms) / nodeWidth) (omega arith);
+  steps = le→leb 0 (x .stepLimit) (omega arith);
+}
+
 pub bounded-call : (x : Claim) → refusal x ≡ none → Bounded (searchLimits x) (givenBook x) (searched x)
-unfolding searched searchLimits fits
-bounded-call x e =
-    let p : Passes x = passes x e in
-    bounded (searchLimits x) (givenBook x) (namesIn (x .text)) (suc (x .stepLimit)) (x .assumed) (x .goal)
-    (le→leb 0 (x .stepLimit) (omega arith)) tt (le→leb (length (givenBook x)) (length (x .words)) (omega (arith, p .book, p .given)))
-    (le→leb 0 (length (x .terms) / nodeWidth) (omega arith))
+unfolding searched
+bounded-call x e = bounded (searchLimits x) (givenBook x) (namesIn (x .text)) (suc (x .stepLimit)) (x .assumed) (x .goal) (starts-within x e)
 
 -- the numbers of a proved claim are within its limits
 pub record ProvedWithin (x : Claim) (n u f t : ℕ) : Type 0 where
@@ -90,16 +70,16 @@ pub record ProvedWithin (x : Claim) (n u f t : ℕ) : Type 0 where
   pub terms : t * nodeWidth ≤ length (x .terms)
 
 module _ (x : Claim) where
-  pub proved-state : {r n u f t : ℕ} (h : Proves x r n u f t) → Within (searchLimits x) (givenBook x) (h .state)
+  pub proved-state : {r n u f t : ℕ} (h : Proves x r n u f t) → Kept (searchLimits x) (givenBook x) (h .state)
   proved-state {r} h = go (subst (Bounded (searchLimits x) (givenBook x)) (h .is) (bounded-call x (h .passed)))
     where
-      go : Bounded (searchLimits x) (givenBook x) (found r (h .state)) → Within (searchLimits x) (givenBook x) (h .state)
+      go : Bounded (searchLimits x) (givenBook x) (found r (h .state)) → Kept (searchLimits x) (givenBook x) (h .state)
       go (b-found w) = w
 
   pub proved-within : {r n u f t : ℕ} → Proves x r n u f t → ProvedWithin x n u f t
   unfolding searchLimits fits
   proved-within {r} {n} {u} {f} {t} h =
-      let w : Within (searchLimits x) (givenBook x) (h .state) = proved-state h in
+      let w : Within (searchLimits x) (h .state) = (proved-state h) .within in
       let a : h .state .steps ≤ x .stepLimit = leb→le _ _ (w .steps) in
       let b : h .state .used ≤ 4096 = leb→le _ _ (w .names) in
       let c : length (h .state .words) ≤ length (x .words) = leb→le _ _ (w .formulas) in
@@ -135,7 +115,7 @@ module _ (x : Claim) where
   word-count h = length-map (h .state .words) word ∙ h .formulas
 
   number-count : {r n u f t : ℕ} (h : Proves x r n u f t) → length (inNumbers (h .state .nodes)) ≡ t * nodeWidth
-  number-count h = numbers-length (h .state .nodes) ∙ ap (λ (k : ℕ). k * nodeWidth) (h .terms)
+  number-count h = in-numbers-length (h .state .nodes) ∙ ap (λ (k : ℕ). k * nodeWidth) (h .terms)
 
   -- in front stand the words and nodes that were made
   pub front-words : {r n u f t : ℕ} (h : Proves x r n u f t) → take f ((called x) .words) ≡ map word (h .state .words)
