@@ -2,7 +2,9 @@
 ghost use mathlib.Core.Path.{_≡_};
 ghost use Prim.Native.Nat.{_/_, _%_, _^_, _≤_};
 ghost use lib.ListN.{length, getD};
-ghost use Rattle.theory.specs.Names.{spell, same};
+ghost use Rattle.theory.specs.Names.{spell, same, among, skipped, fresh};
+ghost use Rattle.theory.specs.NameText.{namesIn};
+ghost use Rattle.identifier_generator.specs.Entry.{entrySize};
 
 // How many letters index `i` has.
 pub fn letter_count(i: usize) -> usize
@@ -53,4 +55,47 @@ pub fn spells(i: usize, name: &[u8]) -> bool
         j += 1;
     }
     true
+}
+
+// How many bytes the first entry of `text` takes with its length byte; 0 where it is cut or missing.
+fn entry_size(text: &[u8]) -> usize
+    ensures { λ r. ⌜ r ≡ entrySize (now (text .entry)) ⌝ }
+{
+    if text.len() == 0 {
+        return 0;
+    }
+    let size = text[0] as usize + 1;
+    if text.len() < size {
+        return 0;
+    }
+    size
+}
+
+// Whether index `i` is spelled like a name that generated names skip.
+pub fn spelled_like(text: &[u8], i: usize) -> bool
+    ensures { λ r. ⌜ r ≡ among (spell i) (skipped (namesIn (now (text .entry)))) ⌝ }
+{
+    let mut rest = text;
+    loop {
+        let size = entry_size(rest);
+        if size == 0 {
+            return false;
+        }
+        if spells(i, &rest[1..size]) {
+            return true;
+        }
+        rest = &rest[size..];
+    }
+}
+
+// The first index from `i` on that is not spelled like a name that is skipped. For the search, whose indices are far below the bound.
+pub fn fresh(text: &[u8], i: usize) -> usize
+    requires { ⌜ i ≤ 1000000 ⌝ }
+    ensures { λ r. ⌜ r ≡ fresh (skipped (namesIn (now (text .entry)))) i ⌝ }
+{
+    let mut next = i;
+    while spelled_like(text, next) {
+        next += 1;
+    }
+    next
 }
