@@ -60,7 +60,8 @@ starts-within x e = let p : Passes x = passes x e in record {
 
 pub bounded-call : (x : Claim) → refusal x ≡ none → Bounded (searchLimits x) (givenBook x) (searched x)
 unfolding searched
-bounded-call x e = bounded (searchLimits x) (givenBook x) (namesIn (x .text)) (suc (x .stepLimit)) (x .assumed) (x .goal) (starts-within x e)
+bounded-call x e =
+    bounded (searchLimits x) (givenBook x) (namesIn (x .text)) (suc (x .stepLimit)) (x .assumed) (x .goal) (starts-within x e)
 
 -- the numbers of a proved claim are within its limits
 pub record ProvedWithin (x : Claim) (n u f t : ℕ) : Type 0 where

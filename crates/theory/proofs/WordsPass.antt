@@ -14,7 +14,7 @@ use Rattle.theory.specs.Written.{AllIn}
 use Rattle.theory.proofs.Forms.{good-rest}
 use Rattle.theory.proofs.Words.{decodes, encodes, Packs, AllPack, words-pass, passes-append}
 use Rattle.theory.proofs.Alike.{Implies, implies, AllImply}
-use Rattle.theory.proofs.Room.{Kept, found-kept}
+use Rattle.theory.proofs.Room.{found-kept}
 use Rattle.theory.proofs.Main.{grown}
 
 -- implications in a good book of at most 16,384 words: their fields are indices, so they have 14 bits
@@ -25,16 +25,23 @@ implications-pack n (v ∷ vs) i g h = (one v (i .0) (g .0), implications-pack (
     one : (v : Shape) → Implies v → Below n v → Packs v
     one v implies b = (omega (arith, b .0), omega (arith, b .1))
 
+-- implications after the shapes of words
+pub later-pack : (ws : List ℕ) (vs : Book) → AllImply vs → Good (map shape ws ++ vs) → length (map shape ws ++ vs) ≤ 16384 →
+    GoodFrom (length ws) vs × AllPack vs
+later-pack ws vs i g h =
+    let tail : GoodFrom (length ws) vs =
+    subst (λ (n : ℕ). GoodFrom n vs) (zero-add (length (map shape ws)) ∙ length-map ws shape) (good-rest (map shape ws) 0 vs g) in
+    let few : length ws + length vs ≤ 16384 = omega (arith, h, length-append (map shape ws) vs, length-map ws shape) in
+    (tail, implications-pack (length ws) vs i tail few)
+
 -- words that pass, and a good book that has implications after their shapes
 appended-pass : (ws : List ℕ) (vs : Book) → badWord ws ≡ none → AllImply vs → Good (map shape ws ++ vs) →
     length (map shape ws ++ vs) ≤ 16384 → badWord (map word (map shape ws ++ vs)) ≡ none
 unfolding badWord
 appended-pass ws vs p i g h =
-    let tail : GoodFrom (length ws) vs =
-    subst (λ (n : ℕ). GoodFrom n vs) (zero-add (length (map shape ws)) ∙ length-map ws shape) (good-rest (map shape ws) 0 vs g) in
-    let few : length ws + length vs ≤ 16384 = omega (arith, h, length-append (map shape ws) vs, length-map ws shape) in
+    let r = later-pack ws vs i g h in
     ap badWord (map-append word (map shape ws) vs ∙ ap (λ (xs : List ℕ). xs ++ map word vs) (encodes ws p))
-    ∙ passes-append [] ws (map word vs) p (words-pass ws vs (implications-pack (length ws) vs i tail few) tail)
+    ∙ passes-append [] ws (map word vs) p (words-pass ws vs (r .1) (r .0))
 
 -- the words of what is found pass, where the given ones do and at most 16,384 are allowed
 pub found-words-pass : (L : Limits) (names : List (List ℕ)) (d : ℕ) (ws hs : List ℕ) (g : ℕ) → badWord ws ≡ none →
