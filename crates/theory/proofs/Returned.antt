@@ -87,8 +87,8 @@ module _ (x : Claim) {r n u f t : ℕ} (h : Proves x r n u f t) where
       Derives (assumptions (givenBook x) 0 (x .assumed)) (term (h .state .words) (h .state .nodes) r) (form (givenBook x) (x .goal))
   unfolding searched
   sound-search =
-      sound (searchLimits x) (namesIn (x .text)) (suc (x .stepLimit)) (givenBook x) (x .assumed) (x .goal) (p .good) (p .ins) (p .goal) (p .few)
-      r (h .state) (h .is)
+      sound (searchLimits x) (namesIn (x .text)) (suc (x .stepLimit)) (givenBook x) (x .assumed) (x .goal) (p .good) (p .ins) (p .goal)
+      (p .few) r (h .state) (h .is)
 
   few-words : length (h .state .words) ≤ 16384
   few-words = omega (arith, h .formulas, (proved-within x h) .formulas, p .few-words)
@@ -120,6 +120,7 @@ module _ (x : Claim) {r n u f t : ℕ} (h : Proves x r n u f t) where
       ∙ nodes-back (h .state .nodes) (padded (length (x .terms)) (inNumbers (h .state .nodes))) _ 0 refl
 
   -- so the returned term is the term that was found
-  pub term-decode : term (map shape (take f ((called x) .words))) (nodesIn ((called x) .terms) t) r ≡ term (h .state .words) (h .state .nodes) r
+  pub term-decode : term (map shape (take f ((called x) .words))) (nodesIn ((called x) .terms) t) r ≡
+      term (h .state .words) (h .state .nodes) r
   term-decode =
       ap₂ (λ (ws : Book) (ns : List Node). term ws ns r) words-decode nodes-decode ∙ unruled-term (h .state .words) (h .state .nodes) r

@@ -52,7 +52,8 @@ unfolding fits
 found-words-pass L names d ws hs g p ins in-g start m e few t s f =
     let k = found-kept L (map shape ws) names d hs g start t s f in
     let r = grown L names d (map shape ws) hs g (decodes ws p) ins in-g t s f in
-    let n : length (s .words) ≤ m = leb→le (length (s .words)) m (subst (λ (b : Bound). T (fits b (length (s .words)))) e (k .within .formulas)) in
+    let n : length (s .words) ≤ m =
+    leb→le (length (s .words)) m (subst (λ (b : Bound). T (fits b (length (s .words)))) e (k .within .formulas)) in
     subst (λ (b : Book). badWord (map word b) ≡ none) (sym (k .is))
     (appended-pass ws (k .more) p (k .imply) (subst Good (k .is) (r .1))
     (subst (λ (b : Book). length b ≤ 16384) (k .is) (le-trans n few)))
