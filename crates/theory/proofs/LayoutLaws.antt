@@ -1,13 +1,15 @@
 -- Nodes as numbers and numbers as nodes: each is the other's inverse where the layout is kept. Assumes nothing.
-use Prim.Native.Nat.{ℕ, zero, suc, _+_, _*_, _<_}
+use Prim.Native.Nat.{ℕ, zero, suc, _+_, _*_, _≤_, _<_}
 use mathlib.Core.Path.{_≡_, refl, sym, ap, ap₂, _∙_}
-use mathlib.Core.List.{List, [], _∷_, _++_, append-assoc}
+use mathlib.Core.List.{List, [], _∷_, _++_, map, append-assoc}
 use native.Mathlib.Nat.{add-zero, add-suc, suc-add}
 use native.Mathlib.Omega.{arith}
-use lib.ListN.{length, getD, length-append}
+use lib.ListN.{length, getD, take, drop, length-append}
+use lib.Seq.{drop-cons, getD-at}
 use Rattle.theory.specs.Term.{Piece, ident, pair, fst, snd, fn, app, inl, inr, case, abort, asc, unit}
 use Rattle.theory.specs.Term.{Node, node, assumed, sixOf, six}
-use Rattle.theory.specs.Layout.{nodeWidth, pieceOf, pieceAt, nodesFrom, inNumbers}
+use Rattle.theory.specs.Layout.{nodeWidth, pieceOf, pieceAt, nodesFrom, nodesIn, inNumbers}
+use Rattle.theory.proofs.Forms.{snoc-length}
 
 -- a node has as many numbers as its width
 pub six-length : (p : Piece) → length (sixOf p) ≡ nodeWidth
@@ -81,3 +83,71 @@ nodes-agree t u i (suc k) h =
     ap₂ (λ (p : Piece) (ns : List Node). node assumed p ∷ ns)
     (pieces-agree t u (i * nodeWidth) (i * nodeWidth) (λ j l. h (j + i * nodeWidth) (omega (arith, add-suc i k))))
     (nodes-agree t u (suc i) k (λ j l. h j (omega (arith, add-suc i k, suc-add i k))))
+
+-- n numbers from a place on
+abbrev pub numbersAt : List ℕ → ℕ → ℕ → List ℕ
+numbersAt t at zero = []
+numbersAt t at (suc n) = getD t at 0 ∷ numbersAt t (suc at) n
+
+-- the numbers that stand from a place on, cut out of the list
+pub numbers-cut : (t : List ℕ) (at n : ℕ) → at + n ≤ length t → numbersAt t at n ≡ take n (drop at t)
+numbers-cut t at zero h = refl
+numbers-cut t at (suc n) h =
+    rw (drop-cons t at 0 (omega arith)) (ap (λ (r : List ℕ). getD t at 0 ∷ r) (numbers-cut t (suc at) n (omega (arith, add-suc at n))))
+
+-- and what stands between two parts
+pub numbers-between : (before xs after : List ℕ) (n : ℕ) → length before ≡ n → numbersAt (before ++ (xs ++ after)) n (length xs) ≡ xs
+numbers-between before [] after n e = refl
+numbers-between before (x ∷ xs) after n e =
+    ap₂ (λ (y : ℕ) (ys : List ℕ). y ∷ ys) (getD-at before x (xs ++ after) 0 n e)
+    (ap (λ (t : List ℕ). numbersAt t (suc n) (length xs)) (sym (append-assoc before (x ∷ []) (xs ++ after)))
+    ∙ numbers-between (before ++ (x ∷ [])) xs after (suc n) (snoc-length before x ∙ ap suc e))
+
+-- a node says what its numbers say
+pub piece-numbers : (t : List ℕ) (at : ℕ) → pieceAt t at ≡ pieceAt (numbersAt t at nodeWidth) 0
+unfolding pieceAt
+piece-numbers t at =
+    let one : 1 + at ≡ suc at = omega arith in
+    let two : 2 + at ≡ suc (suc at) = omega arith in
+    let three : 3 + at ≡ suc (suc (suc at)) = omega arith in
+    let four : 4 + at ≡ suc (suc (suc (suc at))) = omega arith in
+    let five : 5 + at ≡ suc (suc (suc (suc (suc at)))) = omega arith in
+    cc
+
+-- so where the six numbers of a piece stand, it says that piece
+pub piece-there : (before after : List ℕ) (p : Piece) (n : ℕ) → length before ≡ n → pieceAt (before ++ (sixOf p ++ after)) n ≡ p
+piece-there before after p n e =
+    piece-numbers (before ++ (sixOf p ++ after)) n
+    ∙ ap (λ (k : ℕ). pieceAt (numbersAt (before ++ (sixOf p ++ after)) n k) 0) (sym (six-length p))
+    ∙ ap (λ (xs : List ℕ). pieceAt xs 0) (numbers-between before (sixOf p) after n e)
+    ∙ six-back p
+
+-- a part in the middle, seen from where it begins
+pub parts-here : (before a b after : List ℕ) → before ++ ((a ++ b) ++ after) ≡ before ++ (a ++ (b ++ after))
+parts-here before a b after = ap (λ (r : List ℕ). before ++ r) (append-assoc a b after)
+
+-- and from where it ends
+pub parts-there : (before a b after : List ℕ) → before ++ ((a ++ b) ++ after) ≡ (before ++ a) ++ (b ++ after)
+parts-there before a b after = parts-here before a b after ∙ sym (append-assoc before a (b ++ after))
+
+-- the end of node i is where node i + 1 begins
+pub past-node : (before : List ℕ) (p : Piece) (i : ℕ) → length before ≡ i * nodeWidth → length (before ++ sixOf p) ≡ suc i * nodeWidth
+past-node before p i e = length-append before (sixOf p) ∙ ap₂ _+_ e (six-length p) ∙ omega arith
+
+nodes-from : (ns : List Node) (before after : List ℕ) (i : ℕ) → length before ≡ i * nodeWidth →
+    map (λ (n : Node). n .piece) (nodesFrom (before ++ (inNumbers ns ++ after)) i (length ns)) ≡ map (λ (n : Node). n .piece) ns
+unfolding nodesFrom inNumbers six
+nodes-from [] before after i e = refl
+nodes-from (n ∷ ns) before after i e =
+    let here : _ = parts-here before (six n) (inNumbers ns) after in
+    let there : _ = parts-there before (six n) (inNumbers ns) after in
+    ap₂ (λ (p : Piece) (ps : List Piece). p ∷ ps)
+    (ap (λ (t : List ℕ). pieceAt t (i * nodeWidth)) here ∙ piece-there before (inNumbers ns ++ after) (n .piece) (i * nodeWidth) e)
+    (ap (λ (t : List ℕ). map (λ (n : Node). n .piece) (nodesFrom t (suc i) (length ns))) there
+    ∙ nodes-from ns (before ++ six n) after (suc i) (past-node before (n .piece) i e))
+
+-- the numbers of nodes, whatever follows them, say those nodes
+pub numbers-nodes : (ns : List Node) (after : List ℕ) →
+    map (λ (n : Node). n .piece) (nodesIn (inNumbers ns ++ after) (length ns)) ≡ map (λ (n : Node). n .piece) ns
+unfolding nodesIn
+numbers-nodes ns after = nodes-from ns [] after 0 refl
