@@ -9,7 +9,8 @@ use lib.Dec.{T, leb, ltb, eqb, leb→le, le→leb, ltb→lt, eqb→eq}
 use lib.ListN.{length, take, length-map}
 use lib.Seq.{length-take-le}
 use Rattle.theory.specs.Form.{Book, Good, shape, badWord}
-use Rattle.theory.specs.NameText.{badName}
+use Rattle.theory.specs.NameText.{namesIn, badName}
+use Rattle.theory.specs.Names.{Distinct}
 use Rattle.theory.specs.Layout.{nodeWidth}
 use Rattle.theory.specs.Written.{AllIn}
 use Rattle.theory.specs.Refusal.{Fault, Sizes, BadFormula, BadAssumption, BadNames, BadGoal, Refused, faultAt, orElse, unless}
@@ -18,6 +19,7 @@ use Rattle.theory.specs.Refusal.{badGoal}
 use Rattle.theory.specs.Call.{Claim, rightSizes, givenWords, givenBook, refusal}
 use Rattle.theory.proofs.Tests.{and-left, and-right}
 use Rattle.theory.proofs.Words.{decodes}
+use Rattle.theory.proofs.NamesPass.{names-pass}
 
 -- two tests of which none refuses
 pub or-none : (a b : Option Refused) → orElse a b ≡ none → (a ≡ none) × (b ≡ none)
@@ -136,6 +138,8 @@ pub record Passes (x : Claim) : Type 0 where
   pub few : length (x .assumed) ≤ 64
   pub ins : AllIn (givenBook x) (x .assumed)
   pub names : badName (length (x .assumed)) (x .text) ≡ none
+  pub named : length (namesIn (x .text)) ≡ length (x .assumed)
+  pub distinct : Distinct (namesIn (x .text))
   pub goal : x .goal < length (givenBook x)
 
 module _ (x : Claim) where
@@ -169,6 +173,7 @@ module _ (x : Claim) where
       let m : length (map shape (take (x .count) (x .words))) ≡ x .count = length-map (take (x .count) (x .words)) shape ∙ k in
       let v : badWord (givenWords x) ≡ none = fault-none BadFormula _ (b .0) in
       let h = assumptions-pass (givenBook x) (x .count) m (x .assumed) (fault-none BadAssumption _ (c .0)) in
+      let named : badName (length (x .assumed)) (x .text) ≡ none = fault-none BadNames _ (d .0) in
       let j : x .goal < x .count = ltb→lt (x .goal) (x .count) (unless-none _ (fault-none BadGoal _ (d .1))) in
       record {
         sizes = t;
@@ -184,6 +189,8 @@ module _ (x : Claim) where
         book = m;
         few = h .0;
         ins = h .1;
-        names = fault-none BadNames _ (d .0);
+        names = named;
+        named = (names-pass (length (x .assumed)) (x .text) named) .1;
+        distinct = (names-pass (length (x .assumed)) (x .text) named) .0 .apart;
         goal = omega arith;
       }

@@ -37,12 +37,12 @@ book-back ws vs p i g h =
     ∙ ap₂ _++_ (ap (map shape) (encodes ws p)) (words-back vs ((later-pack ws vs i g h) .1))
 
 -- nodes without the rules that made them
-pub unruled : List Node → List Node
+abbrev pub unruled : List Node → List Node
 unruled = map (λ n. node assumed (n .piece))
 
 -- nodes that are numbers in a slice are read as they are
 nodes-back : (ns : List Node) (t zs : List ℕ) (i : ℕ) → drop (i * nodeWidth) t ≡ inNumbers ns ++ zs → nodesFrom t i (length ns) ≡ unruled ns
-unfolding nodesFrom inNumbers unruled six
+unfolding nodesFrom inNumbers six
 nodes-back [] t zs i e = refl
 nodes-back (n ∷ ns) t zs i e = ap₂ (λ (p : Piece) (ms : List Node). node assumed p ∷ ms) here (nodes-back ns t zs (suc i) rest)
   where
@@ -69,7 +69,7 @@ nodes-back (n ∷ ns) t zs i e = ap₂ (λ (p : Piece) (ms : List Node). node as
 
 -- a term's tree does not tell the rules
 unruled-grow : (ws : Book) (done : List Term) (ns : List Node) → growTerms ws done (unruled ns) ≡ growTerms ws done ns
-unfolding growTerms unruled
+unfolding growTerms
 unruled-grow ws done [] = refl
 unruled-grow ws done (n ∷ ns) = unruled-grow ws (done ++ (termOf ws done (n .piece) ∷ [])) ns
 

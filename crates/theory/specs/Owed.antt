@@ -5,7 +5,7 @@ use mathlib.Core.Bool.{true}
 use lib.Dec.{T}
 use lib.ListN.{length, getD}
 use Rattle.theory.specs.Layout.{nodeWidth}
-use Rattle.theory.specs.Call.{Claim, rightSizes, givenWords, After}
+use Rattle.theory.specs.Call.{Claim, rightSizes, givenWords, Outcome, proved, unprovable, After}
 
 -- "all formula words and term nodes above the fills are zero, and every work record is zero"
 pub record ZeroAbove (a : After) (f t : ℕ) : Type 0 where
@@ -25,3 +25,8 @@ pub record Grown (x y : Claim) : Type 0 where
   pub records : x .records ≤ y .records
   pub steps : x .stepLimit ≤ y .stepLimit
   pub sizes : T (rightSizes y)
+
+-- Proved or Unprovable
+pub data Decided : Outcome → Type 0 where
+  isProved : {r n u f t : ℕ} → Decided (proved r n u f t)
+  isUnprovable : {n u f t : ℕ} → Decided (unprovable n u f t)

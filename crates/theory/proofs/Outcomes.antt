@@ -1,0 +1,94 @@
+-- What a decided outcome promises: the returned term derives the goal, or a countermodel stands against it. Assumes nothing.
+use Prim.Native.Nat.{ℕ, suc, _<_}
+use mathlib.Core.Path.{_≡_, sym, ap, _∙_, subst}
+use mathlib.Core.List.{List, [], _∷_, _++_, map, map-append, append-assoc}
+use native.Mathlib.Omega.{arith}
+use lib.ListN.{length, take}
+use lib.Seq.{take-at}
+use Rattle.theory.specs.Form.{form, shape, word}
+use Rattle.theory.specs.Term.{Node, Term, term, Derives, AllNamesHave}
+use Rattle.theory.specs.Names.{skipped, bytesOf, GoodName}
+use Rattle.theory.specs.NameText.{namesIn, padded}
+use Rattle.theory.specs.Layout.{nodesIn}
+use Rattle.theory.specs.World.{modelOf, ForcesEach, firstWorld}
+use Rattle.theory.specs.Kripke.{Lawful, frame, forces}
+use Rattle.theory.specs.Meter.{fits}
+use Rattle.theory.specs.Written.{assumptions}
+use Rattle.theory.specs.Call.{Claim, searchLimits, givenWords, givenBook, searched, called}
+use Rattle.theory.proofs.Words.{encodes}
+use Rattle.theory.proofs.Finite.{countermodel}
+use Rattle.theory.proofs.Verdict.{unprovable}
+use Rattle.theory.proofs.Named.{names-good}
+use Rattle.theory.proofs.NamesApart.{names-apart}
+use Rattle.theory.proofs.Room.{Kept}
+use Rattle.theory.proofs.Passing.{Passes, passes}
+use Rattle.theory.proofs.Called.{Proves, Fails}
+use Rattle.theory.proofs.Slices.{proved-state, proved-words}
+use Rattle.theory.proofs.Returned.{unruled, sound-search, nodes-decode, term-decode}
+
+module _ (x : Claim) where
+  -- the term that comes back derives the goal from the assumptions
+  pub proved-derives : {r n u f t : ℕ} → Proves x r n u f t →
+      Derives (assumptions (givenBook x) 0 (x .assumed))
+      (term (map shape (take f ((called x) .words))) (nodesIn ((called x) .terms) t) r) (form (givenBook x) (x .goal))
+  proved-derives h = subst (λ (s : Term). Derives (assumptions (givenBook x) 0 (x .assumed)) s (form (givenBook x) (x .goal)))
+      (sym (term-decode x h)) ((sound-search x h) .4)
+
+  -- its root is one of its nodes
+  pub proved-root : {r n u f t : ℕ} → Proves x r n u f t → r < t
+  proved-root {r} {n} {u} {f} {t} h = omega (arith, (sound-search x h) .0, h .terms)
+
+  -- the given words stand where they stood
+  pub proved-given : {r n u f t : ℕ} → Proves x r n u f t → take (x .count) ((called x) .words) ≡ givenWords x
+  unfolding padded givenBook
+  proved-given h =
+      let p : Passes x = passes x (h .passed) in
+      let k : Kept (searchLimits x) (givenBook x) (h .state) = proved-state x h in
+      ap (take (x .count)) (proved-words x h
+      ∙ ap (padded (length (x .words))) (ap (map word) (k .is) ∙ map-append word (givenBook x) (k .more)
+      ∙ ap (λ (ws : List ℕ). ws ++ map word (k .more)) (encodes (givenWords x) (p .words))))
+      ∙ ap (take (x .count)) (append-assoc (givenWords x) (map word (k .more)) _) ∙ take-at (givenWords x) _ (x .count) (p .counted)
+
+  module _ {n u f t : ℕ} (h : Fails x n u f t) where
+    p : Passes x
+    p = passes x (h .passed)
+
+    -- the tree that the search saw is a model of the assumptions and not of the goal
+    pub failed-model : Lawful (frame (modelOf (h .tree))) ×
+        ForcesEach (modelOf (h .tree)) (firstWorld (h .tree)) (map (form (givenBook x)) (x .assumed)) ×
+        ¬ forces (frame (modelOf (h .tree))) (form (givenBook x) (x .goal)) (firstWorld (h .tree))
+    unfolding searched
+    failed-model =
+        countermodel (searchLimits x) (namesIn (x .text)) (suc (x .stepLimit)) (givenBook x) (x .assumed) (x .goal) (p .good) (p .ins)
+        (p .goal) u n (h .tree) (h .is)
+
+    -- no term of any size derives the goal
+    pub failed-none : (s : Term) → Derives (assumptions (givenBook x) 0 (x .assumed)) s (form (givenBook x) (x .goal)) → ⊥
+    unfolding searched
+    failed-none =
+        unprovable (searchLimits x) (namesIn (x .text)) (suc (x .stepLimit)) (givenBook x) (x .assumed) (x .goal) (p .good) (p .ins)
+        (p .goal) u n (h .tree) (h .is)
+
+unruled-names : (P : ℕ → Type 0) (ns : List Node) → AllNamesHave P ns → AllNamesHave P (unruled ns)
+unruled-names P [] h = tt
+unruled-names P (n ∷ ns) h = (h .0, unruled-names P ns (h .1))
+
+-- names: two of a proved term or of the assumptions have equal bytes only if their numbers are equal
+module _ (x : Claim) {r n u f t : ℕ} (h : Proves x r n u f t) where
+  pub named-within : AllNamesHave (GoodName (skipped (namesIn (x .text))) (length (x .assumed)) u) (nodesIn ((called x) .terms) t)
+  unfolding searched searchLimits fits
+  named-within =
+      let g = names-good (searchLimits x) (namesIn (x .text)) (suc (x .stepLimit)) (givenBook x) (x .assumed) (x .goal) tt r (h .state)
+      (h .is) in
+      subst (AllNamesHave (GoodName (skipped (namesIn (x .text))) (length (x .assumed)) u)) (sym (nodes-decode x h))
+      (unruled-names (GoodName (skipped (namesIn (x .text))) (length (x .assumed)) u) (h .state .nodes)
+      (subst (λ (k : ℕ). AllNamesHave (GoodName (skipped (namesIn (x .text))) (length (x .assumed)) k) (h .state .nodes)) (h .used) (g .0)))
+
+  pub named-apart : (y z : ℕ) → GoodName (skipped (namesIn (x .text))) (length (x .assumed)) u y →
+      GoodName (skipped (namesIn (x .text))) (length (x .assumed)) u z → bytesOf (namesIn (x .text)) y ≡ bytesOf (namesIn (x .text)) z →
+      y ≡ z
+  named-apart y z a b e =
+      let p : Passes x = passes x (h .passed) in
+      names-apart (namesIn (x .text)) u (omega (arith, p .named, p .few)) (p .distinct) y z
+      (subst (λ (k : ℕ). GoodName (skipped (namesIn (x .text))) k u y) (sym (p .named)) a)
+      (subst (λ (k : ℕ). GoodName (skipped (namesIn (x .text))) k u z) (sym (p .named)) b) e
