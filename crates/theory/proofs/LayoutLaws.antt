@@ -134,20 +134,23 @@ parts-there before a b after = parts-here before a b after ∙ sym (append-assoc
 pub past-node : (before : List ℕ) (p : Piece) (i : ℕ) → length before ≡ i * nodeWidth → length (before ++ sixOf p) ≡ suc i * nodeWidth
 past-node before p i e = length-append before (sixOf p) ∙ ap₂ _+_ e (six-length p) ∙ omega arith
 
+-- nodes without the rules that made them
+abbrev pub unruled : List Node → List Node
+unruled = map (λ n. node assumed (n .piece))
+
 nodes-from : (ns : List Node) (before after : List ℕ) (i : ℕ) → length before ≡ i * nodeWidth →
-    map (λ (n : Node). n .piece) (nodesFrom (before ++ (inNumbers ns ++ after)) i (length ns)) ≡ map (λ (n : Node). n .piece) ns
+    nodesFrom (before ++ (inNumbers ns ++ after)) i (length ns) ≡ unruled ns
 unfolding nodesFrom inNumbers six
 nodes-from [] before after i e = refl
 nodes-from (n ∷ ns) before after i e =
     let here : _ = parts-here before (six n) (inNumbers ns) after in
     let there : _ = parts-there before (six n) (inNumbers ns) after in
-    ap₂ (λ (p : Piece) (ps : List Piece). p ∷ ps)
+    ap₂ (λ (p : Piece) (ms : List Node). node assumed p ∷ ms)
     (ap (λ (t : List ℕ). pieceAt t (i * nodeWidth)) here ∙ piece-there before (inNumbers ns ++ after) (n .piece) (i * nodeWidth) e)
-    (ap (λ (t : List ℕ). map (λ (n : Node). n .piece) (nodesFrom t (suc i) (length ns))) there
+    (ap (λ (t : List ℕ). nodesFrom t (suc i) (length ns)) there
     ∙ nodes-from ns (before ++ six n) after (suc i) (past-node before (n .piece) i e))
 
--- the numbers of nodes, whatever follows them, say those nodes
-pub numbers-nodes : (ns : List Node) (after : List ℕ) →
-    map (λ (n : Node). n .piece) (nodesIn (inNumbers ns ++ after) (length ns)) ≡ map (λ (n : Node). n .piece) ns
+-- the numbers of nodes, whatever follows them, say those nodes; the rules are lost
+pub numbers-nodes : (ns : List Node) (after : List ℕ) → nodesIn (inNumbers ns ++ after) (length ns) ≡ unruled ns
 unfolding nodesIn
 numbers-nodes ns after = nodes-from ns [] after 0 refl

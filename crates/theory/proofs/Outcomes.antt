@@ -24,7 +24,8 @@ use Rattle.theory.proofs.Room.{Kept}
 use Rattle.theory.proofs.Passing.{Passes, passes}
 use Rattle.theory.proofs.Called.{Proves, Fails}
 use Rattle.theory.proofs.Slices.{proved-state, proved-words}
-use Rattle.theory.proofs.Returned.{unruled, sound-search, nodes-decode, term-decode}
+use Rattle.theory.proofs.LayoutLaws.{unruled}
+use Rattle.theory.proofs.Returned.{sound-search, nodes-decode, term-decode}
 
 module _ (x : Claim) where
   -- the term that comes back derives the goal from the assumptions

@@ -1,23 +1,20 @@
 -- What a proved call returns decodes to what its search found, and so its term derives the goal. Assumes nothing.
-use Prim.Native.Nat.{ℕ, suc, _+_, _*_, _≤_, _<_}
+use Prim.Native.Nat.{ℕ, suc, _≤_, _<_}
 use mathlib.Core.Path.{_≡_, refl, sym, ap, ap₂, _∙_, subst}
 use mathlib.Core.Option.{none}
-use mathlib.Core.List.{List, [], _∷_, _++_, map, map-append, append-assoc}
-use native.Mathlib.Nat.{add-comm, add-zero}
+use mathlib.Core.List.{List, [], _∷_, _++_, map, map-append}
 use native.Mathlib.Omega.{arith}
-use lib.ListN.{length, getD, take, drop, List·getD-append}
-use lib.Seq.{getD-drop, drop-drop, drop-append-seam}
+use lib.ListN.{length, getD, take}
 use Rattle.theory.specs.Form.{Book, form, Good, shape, word, badWord, Ext}
-use Rattle.theory.specs.Term.{Term, Piece, Node, node, assumed, six, Unit′, termOf, growTerms, term, Derives, NodesFrom}
+use Rattle.theory.specs.Term.{Term, Node, Unit′, termOf, growTerms, term, Derives, NodesFrom}
 use Rattle.theory.specs.NameText.{namesIn, padded}
-use Rattle.theory.specs.Layout.{nodeWidth, pieceAt, nodesFrom, nodesIn, inNumbers}
-use Rattle.theory.specs.Meter.{found}
+use Rattle.theory.specs.Layout.{nodesIn, inNumbers}
 use Rattle.theory.specs.Written.{assumptions}
 use Rattle.theory.specs.Call.{Claim, searchLimits, givenWords, givenBook, searched, called}
 use Rattle.theory.proofs.Words.{encodes, AllPack, shape-word}
 use Rattle.theory.proofs.Alike.{AllImply}
 use Rattle.theory.proofs.WordsPass.{later-pack, found-words-pass}
-use Rattle.theory.proofs.LayoutLaws.{six-length, six-back, pieces-agree}
+use Rattle.theory.proofs.LayoutLaws.{unruled, numbers-nodes}
 use Rattle.theory.proofs.Main.{sound}
 use Rattle.theory.proofs.Room.{Kept}
 use Rattle.theory.proofs.Passing.{Passes, passes}
@@ -35,37 +32,6 @@ book-back : (ws : List ℕ) (vs : Book) → badWord ws ≡ none → AllImply vs 
 book-back ws vs p i g h =
     ap (map shape) (map-append word (map shape ws) vs) ∙ map-append shape (map word (map shape ws)) (map word vs)
     ∙ ap₂ _++_ (ap (map shape) (encodes ws p)) (words-back vs ((later-pack ws vs i g h) .1))
-
--- nodes without the rules that made them
-abbrev pub unruled : List Node → List Node
-unruled = map (λ n. node assumed (n .piece))
-
--- nodes that are numbers in a slice are read as they are
-nodes-back : (ns : List Node) (t zs : List ℕ) (i : ℕ) → drop (i * nodeWidth) t ≡ inNumbers ns ++ zs → nodesFrom t i (length ns) ≡ unruled ns
-unfolding nodesFrom inNumbers six
-nodes-back [] t zs i e = refl
-nodes-back (n ∷ ns) t zs i e = ap₂ (λ (p : Piece) (ms : List Node). node assumed p ∷ ms) here (nodes-back ns t zs (suc i) rest)
-  where
-    front : drop (i * nodeWidth) t ≡ six n ++ (inNumbers ns ++ zs)
-    front = e ∙ append-assoc (six n) (inNumbers ns) zs
-
-    wide : length (six n) ≡ nodeWidth
-    wide = six-length (n .piece)
-
-    number : (k : ℕ) → k < nodeWidth → getD t (k + i * nodeWidth) 0 ≡ getD (six n) (k + 0) 0
-    number k l =
-        ap (λ (m : ℕ). getD t m 0) (add-comm k (i * nodeWidth)) ∙ sym (getD-drop (i * nodeWidth) t k 0)
-        ∙ ap (λ (ms : List ℕ). getD ms k 0) front ∙ List·getD-append (six n) (inNumbers ns ++ zs) 0 k (omega (arith, wide))
-        ∙ ap (λ (m : ℕ). getD (six n) m 0) (sym (add-zero k))
-
-    here : pieceAt t (i * nodeWidth) ≡ n .piece
-    here = pieces-agree t (six n) (i * nodeWidth) 0 number ∙ six-back (n .piece)
-
-    rest : drop (suc i * nodeWidth) t ≡ inNumbers ns ++ zs
-    rest =
-        ap (λ (m : ℕ). drop m t) (let p : suc i * nodeWidth ≡ i * nodeWidth + nodeWidth = omega arith in p)
-        ∙ sym (drop-drop nodeWidth (i * nodeWidth) t) ∙ ap (drop nodeWidth) front
-        ∙ ap (λ (m : ℕ). drop m (six n ++ (inNumbers ns ++ zs))) (sym wide) ∙ drop-append-seam (six n) (inNumbers ns ++ zs)
 
 -- a term's tree does not tell the rules
 unruled-grow : (ws : Book) (done : List Term) (ns : List Node) → growTerms ws done (unruled ns) ≡ growTerms ws done ns
@@ -113,11 +79,11 @@ module _ (x : Claim) {r n u f t : ℕ} (h : Proves x r n u f t) where
 
   -- the returned numbers decode to the nodes that were found
   pub nodes-decode : nodesIn ((called x) .terms) t ≡ unruled (h .state .nodes)
-  unfolding nodesIn padded
+  unfolding padded
   nodes-decode =
-      ap (λ (ts : List ℕ). nodesFrom ts 0 t) (proved-terms x h)
-      ∙ ap (λ (k : ℕ). nodesFrom (padded (length (x .terms)) (inNumbers (h .state .nodes))) 0 k) (sym (h .terms))
-      ∙ nodes-back (h .state .nodes) (padded (length (x .terms)) (inNumbers (h .state .nodes))) _ 0 refl
+      ap (λ (ts : List ℕ). nodesIn ts t) (proved-terms x h)
+      ∙ ap (λ (k : ℕ). nodesIn (padded (length (x .terms)) (inNumbers (h .state .nodes))) k) (sym (h .terms))
+      ∙ numbers-nodes (h .state .nodes) _
 
   -- so the returned term is the term that was found
   pub term-decode : term (map shape (take f ((called x) .words))) (nodesIn ((called x) .terms) t) r ≡
