@@ -1,21 +1,23 @@
 -- The search asks nothing but the premises of its rules: two functions that agree on these make it answer alike. Assumes nothing.
-use Prim.Native.Nat.{ℕ, suc, _<_}
+use Prim.Native.Nat.{ℕ, _<_}
 use mathlib.Core.Path.{_≡_, refl, sym, ap, ap₂, _∙_, subst}
 use mathlib.Core.Option.{Option, none, some}
 use mathlib.Core.List.{List, [], _∷_, _++_, append-assoc}
 use lib.ListN.{length}
-use Rattle.theory.specs.Form.{Form, top, bot, leaf, and, or, imp, Shape, isTop, isBot, isLeaf, isAnd, isOr, isImp, Book, look, treeOf}
+use Rattle.theory.specs.Form.{Form, imp, Shape, isTop, isBot, isLeaf, isAnd, isOr, isImp, Book, look, treeOf}
 use Rattle.theory.specs.Form.{trees, form, Below, Good, Ext}
 use Rattle.theory.specs.Term.{Node}
 use Rattle.theory.specs.World.{Tree, Seen}
-use Rattle.theory.specs.Meter.{Limits, Lack, Entry, Sequent, State, Answer, found, failed, short, unfinished, Judgement, byRight, byLeft}
+use Rattle.theory.specs.Meter.{Limits, Entry, Sequent, State, Answer, found, failed, short, unfinished, Judgement, byRight, byLeft}
 use Rattle.theory.specs.Meter.{bySearch, Ask, andThen, attempt, charge, limited}
-use Rattle.theory.specs.Search.{goalUp, pushUp, goOn, entry, firstLeaf, Fired, fire, nest, onRight, onImpl, onLeft, popLeft, tryAt, positions}
+use Rattle.theory.specs.Search.{goalUp, pushUp, goOn, entry, firstLeaf, Fired, fire, nest, onRight, onImpl, onLeft, popLeft, tryAt}
+use Rattle.theory.specs.Search.{positions}
 use Rattle.theory.specs.Search.{halves, fireOr, rule2, onSearch, rule, run}
-use Rattle.theory.specs.Premise.{Question, question, formsOf, asked, EachIn, Askable, Fires, Premise, rightAnd₁, rightAnd₂, rightImpl, rightElse}
+use Rattle.theory.specs.Premise.{Question, question, formsOf, asked, EachIn, Askable, Fires, Premise, rightAnd₁, rightAnd₂, rightImpl}
+use Rattle.theory.specs.Premise.{rightElse}
 use Rattle.theory.specs.Premise.{leftTrue, leftLeaf, leftAnd, leftOr₁, leftOr₂, trueImpl, falseImpl, leafImpl, implImpl, andImpl}
 use Rattle.theory.specs.Premise.{orImpl, leftEmpty, search2, search3₁, search3₂, search4₁, search4₂}
-use Rattle.theory.proofs.Forms.{ext-refl, ext-by, ext-trans, At, at-ext, at-form, imp-new, imp-two, form-at, good-at}
+use Rattle.theory.proofs.Forms.{ext-by, ext-trans, At, at-ext, at-form, imp-new, imp-two, form-at, good-at}
 use Rattle.theory.proofs.Context.{Reads, no-more, and-more, reads-ext, reads-snoc, reads-append}
 use Rattle.theory.proofs.Fire.{FiredAs, fire-as, nests-at}
 use Rattle.theory.proofs.Charges.{made, restart, at-charge}
@@ -75,8 +77,8 @@ module _ (L : Limits) (taken : List (List ℕ)) (ask ask′ : Ask Answer)
       right-same (isAnd a c) b g agree =
           let x : Ext (s .words) (s .words ++ []) = ext-by (s .words) [] in
           charge-same L _ _ _ _ _ _ _ (then-same _ _
-          (agree byRight _ _ _ _ _ (record { unordered = reads-ext x un; ordered = reads-ext x os; goal = at-ext x (at-form (s .words) a (b .0)) })
-          rightAnd₁)
+          (agree byRight _ _ _ _ _
+          (record { unordered = reads-ext x un; ordered = reads-ext x os; goal = at-ext x (at-form (s .words) a (b .0)) }) rightAnd₁)
           (λ t s₂ e. let x₂ : Ext (s .words) (s₂ .words ++ []) = ext-trans (ext-trans x (keeps _ _ _ t s₂ e)) (ext-by (s₂ .words) []) in
           charge-same L _ _ _ _ _ _ _ (then-same _ _
           (agree byRight _ _ _ _ _
@@ -184,7 +186,8 @@ module _ (L : Limits) (taken : List (List ℕ)) (ask ask′ : Ask Answer)
         (subst (λ (X : Form). Agree (question byLeft U (X ∷ As) G)) (sym (a .tree) ∙ p) agree)
 
     -- search, with no ordered record left
-    module _ (G : Form) (goal : At (s .words) (q .goal) G) (os : Reads (s .words) (q .ordered) []) (agree : Agree (question bySearch U [] G)) where
+    module _ (G : Form) (goal : At (s .words) (q .goal) G) (os : Reads (s .words) (q .ordered) [])
+        (agree : Agree (question bySearch U [] G)) where
       at-same : (e : Entry) {before es : List Entry} {Y Z : List Form} {A : Form} → Reads (s .words) before Y →
           At (s .words) (e .formula) A → Reads (s .words) es Z → U ≡ Y ++ (A ∷ Z) → (next next′ : Seen → State → Answer) →
           ((m : Seen) (u n : ℕ) → next m (restart s u n) ≡ next′ m (restart s u n)) → (m : Seen) (u n : ℕ) (o : Option (ℕ × ℕ × ℕ)) →

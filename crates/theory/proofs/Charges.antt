@@ -10,8 +10,9 @@ use lib.Dec.{T}
 use lib.ListN.{length}
 use Rattle.theory.specs.Form.{Book}
 use Rattle.theory.specs.Term.{Node}
+use Rattle.theory.specs.World.{Tree}
 use Rattle.theory.specs.Meter.{fits, Limits, Lack, Steps, Names, Formulas, Terms, Contexts, Levels, Sequent, State, Answer, short}
-use Rattle.theory.specs.Meter.{count, lacking, charge, spend, enter}
+use Rattle.theory.specs.Meter.{count, attempt, lacking, charge, spend, enter}
 
 -- the state after a charge, and after a try that gave its formulas and terms back
 abbrev pub made : State → ℕ → Book → List Node → State
@@ -35,7 +36,14 @@ pub record Paid (L : Limits) (u : ℕ) (vs : Book) (ns : List Node) (q : Sequent
   pub contexts : T (fits (L .contexts) (count q))
   pub levels : T (fits (L .levels) (q .level))
 
--- what holds of the shortage, and of two ways to go on where the tests pass, holds of the two searches; one search is the case of equal ways
+-- a shortage inside a try is no failure: it ends the whole call
+pub shortage-ends : (s : State) (l : Lack) (n : ℕ) (k : ℕ → State → Answer) (o : Tree → State → Answer) →
+    attempt s (short l n) k o ≡ short l n
+unfolding attempt
+shortage-ends s l n k o = refl
+
+-- what holds of the shortage, and of two ways to go on where the tests pass, holds of the two searches. A property of one search is the
+-- case of equal ways
 module _ (L : Limits) (P : Answer → Answer → Type 0) where
   pub at-charge : (u : ℕ) (vs : Book) (ns : List Node) (q : Sequent) (s : State) (k k′ : State → Answer) →
       ((l : Lack) → l ≢ Steps → P (short l (s .steps)) (short l (s .steps))) →

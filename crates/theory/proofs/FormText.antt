@@ -9,7 +9,7 @@ use lib.ListN.{drop}
 use Rattle.theory.specs.Form.{Form, top, bot, leaf, and, or, imp, Shape, isTop, isBot, isLeaf, isAnd, isOr, isImp}
 use Rattle.theory.specs.NameText.{between, nameByte, nameBytes}
 use Rattle.theory.specs.WellFormed.{LeafKind, atom, forAll, exists, WellFormed}
-use Rattle.theory.specs.Text.{bytes, digits, leafText, formText}
+use Rattle.theory.specs.Text.{bytes, decimal, leafText, formText}
 use Rattle.theory.proofs.TextApart.{Split, split-so, split-two, split-same, split-token}
 use Rattle.theory.proofs.TextApart.{firstOf, split-whole, bytes-append, digits-bytes, digits-apart}
 
@@ -32,7 +32,7 @@ kind-read top g r = refl
 kind-read bot g r = refl
 kind-read (leaf k s) g r = go (g .0)
   where
-    go : {k : ℕ} → LeafKind k → firstOf openings (isLeaf 0 0) ((leafText k ++ digits 5 s) ++ r) ≡ isLeaf 0 0
+    go : {k : ℕ} → LeafKind k → firstOf openings (isLeaf 0 0) ((leafText k ++ decimal s) ++ r) ≡ isLeaf 0 0
     go atom = refl
     go forAll = refl
     go exists = refl
@@ -81,17 +81,17 @@ leaf-kind atom z = (refl, refl, tt)
 leaf-kind forAll z = (refl, refl, tt)
 leaf-kind exists z = (refl, refl, tt)
 
-leaf-bytes : {k : ℕ} → LeafKind k → (s : ℕ) → T (nameBytes (leafText k ++ digits 5 s))
-leaf-bytes {k} l s = bytes-append (leafText k) (digits 5 s) ((leaf-kind l []) .2) (digits-bytes 5 s)
+leaf-bytes : {k : ℕ} → LeafKind k → (s : ℕ) → T (nameBytes (leafText k ++ decimal s))
+leaf-bytes {k} l s = bytes-append (leafText k) (decimal s) ((leaf-kind l []) .2) (digits-bytes 7 s)
 
 leaf-apart : {k k′ s s′ : ℕ} → WellFormed (leaf k s) → WellFormed (leaf k′ s′) →
-    leafText k ++ digits 5 s ≡ leafText k′ ++ digits 5 s′ → leaf k s ≡ leaf k′ s′
+    leafText k ++ decimal s ≡ leafText k′ ++ decimal s′ → leaf k s ≡ leaf k′ s′
 leaf-apart {k} {k′} {s} {s′} g h e =
-    let a = leaf-kind (g .0) (digits 5 s) in
-    let b = leaf-kind (h .0) (digits 5 s′) in
-    let small : 16384 < 10 ^ 5 = omega arith in
+    let a = leaf-kind (g .0) (decimal s) in
+    let b = leaf-kind (h .0) (decimal s′) in
+    let small : 16384 < 10 ^ 7 = omega arith in
     ap₂ leaf (sym (a .0) ∙ ap (firstOf leafLetters 0) e ∙ b .0)
-    (digits-apart 5 s s′ (lt-trans (g .1) small) (lt-trans (h .1) small) (sym (a .1) ∙ ap (drop 1) e ∙ b .1))
+    (digits-apart 7 s s′ (lt-trans (g .1) small) (lt-trans (h .1) small) (sym (a .1) ∙ ap (drop 1) e ∙ b .1))
 
 -- the text of a formula, with what follows a token, tells the formula and what follows
 pub form-told : (A B : Form) → WellFormed A → WellFormed B → Split (A ≡ B) (formText A) (formText B)

@@ -1,7 +1,7 @@
 -- What a search finds stands in a longer book than it was asked with, whatever the book. Assumes nothing.
 use Prim.Native.Nat.{ℕ}
 use mathlib.Core.Path.{_≡_, subst}
-use mathlib.Core.List.{List, [], _∷_, _++_}
+use mathlib.Core.List.{List}
 use Rattle.theory.specs.Form.{Book, Ext}
 use Rattle.theory.specs.World.{Tree}
 use Rattle.theory.specs.Meter.{Limits, Sequent, State, Answer, found, failed, short, unfinished, Judgement, andThen, attempt, fail}

@@ -7,7 +7,7 @@ use mathlib.Core.List.{List, [], _∷_, _++_, append-nil, append-assoc}
 use native.Mathlib.Nat.{le-trans}
 use native.Mathlib.Omega.{arith}
 use lib.Dec.{T, leb→le, le→leb}
-use lib.ListN.{length, length-append}
+use lib.ListN.{length-append}
 use Rattle.theory.specs.Form.{Book}
 use Rattle.theory.specs.Term.{Node}
 use Rattle.theory.specs.Names.{skipped}

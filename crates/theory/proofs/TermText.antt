@@ -13,7 +13,7 @@ use Rattle.theory.specs.Term.{Term, Ident, Pair, Fst, Snd, Fn, App, Inl,
 use Rattle.theory.specs.Names.{spell, skipped, bytesOf, GoodName, ofAssumption, generated, Distinct}
 use Rattle.theory.specs.NameText.{between, nameByte, nameBytes, wellSpelled}
 use Rattle.theory.specs.WellFormed.{WellNamed}
-use Rattle.theory.specs.Text.{bytes, nameText, termText}
+use Rattle.theory.specs.Text.{bytes, termText}
 use Rattle.theory.proofs.Tests.{and-left, and-right}
 use Rattle.theory.proofs.Spelling.{spell-length}
 use Rattle.theory.proofs.NamesApart.{names-apart, given-bytes, made-bytes}
@@ -115,7 +115,7 @@ module _ (names : List (List ℕ)) (u : ℕ) (few : length names ≤ 64) (apart 
   name-told {x} {y} g h = split-so (names-apart names u few apart x y g h) (split-token ((name-bytes g) .1) ((name-bytes h) .1))
 
   kind-read : (t : Term) → WellNamed Good t → (r : List ℕ) → kindAt (termText names t ++ r) ≡ kind t
-  unfolding kindAt keywords kind termText bytes bytesOf nameText
+  unfolding kindAt keywords kind termText bytes bytesOf
   kind-read (Ident x) g r = name-kind (bytesOf names x) ((name-bytes g) .0) ((name-bytes g) .1) r
   kind-read (Pair s t) g r = refl
   kind-read (Fst t) g r = refl
@@ -143,7 +143,7 @@ module _ (names : List (List ℕ)) (u : ℕ) (few : length names ≤ 64) (apart 
 
   -- the text of a term, with what follows a token, tells the term and what follows
   term-told : (s t : Term) → WellNamed Good s → Told s t
-  unfolding kind termText bytes bytesOf nameText
+  unfolding kind termText bytes bytesOf
   term-told (Ident x) t g = same-kind (Ident x) t g (λ y h. split-so (ap Ident) (name-told g h))
   term-told (Pair a b) t g = same-kind (Pair a b) t g
       (λ c d h. split-two Pair (bytes "(pair ") (term-told a c (g .0) (h .0)) (term-told b d (g .1) (h .1)))

@@ -9,7 +9,7 @@ use Rattle.theory.specs.Term.{Piece, Node, blank, ident, pair, fst, snd,
 use Rattle.theory.specs.Term.{termOf, growTerms, term, NodesFrom}
 use Rattle.theory.specs.Layout.{nodeWidth, pieceAt, nodesFrom, nodesIn}
 use Rattle.theory.specs.Names.{bytesOf}
-use Rattle.theory.specs.Text.{bytes, digits, leafText, formText, nameText, termText}
+use Rattle.theory.specs.Text.{bytes, decimal, leafText, formText, termText}
 use Rattle.theory.specs.Writer.{larger, formDepth, termDepth}
 use Rattle.theory.proofs.Forms.{form-at}
 use Rattle.theory.proofs.Terms.{term-at}
@@ -18,7 +18,7 @@ use Rattle.theory.proofs.Terms.{term-at}
 abbrev pub shapeText : (ℕ → List ℕ) → Shape → List ℕ
 shapeText f isTop = bytes "T"
 shapeText f isBot = bytes "F"
-shapeText f (isLeaf k s) = leafText k ++ digits 5 s
+shapeText f (isLeaf k s) = leafText k ++ decimal s
 shapeText f (isAnd l r) = bytes "(& " ++ (f l ++ (bytes " " ++ (f r ++ bytes ")")))
 shapeText f (isOr l r) = bytes "(| " ++ (f l ++ (bytes " " ++ (f r ++ bytes ")")))
 shapeText f (isImp l r) = bytes "(> " ++ (f l ++ (bytes " " ++ (f r ++ bytes ")")))
@@ -91,7 +91,7 @@ module _ (ws : Book) where
 module _ (ws : Book) (ns : List Node) where
   term-text : (names : List (List ℕ)) (p : Piece) → termText names (termOf ws (growTerms ws [] ns) p) ≡
       pieceText names (λ a. termText names (term ws ns a)) (λ a. formText (form ws a)) p
-  unfolding termText nameText bytesOf termOf term
+  unfolding termText bytesOf termOf term
   term-text names (ident x) = refl
   term-text names (pair a b) = refl
   term-text names (fst a) = refl

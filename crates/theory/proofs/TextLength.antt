@@ -10,7 +10,7 @@ use Rattle.theory.specs.Form.{Form, top, bot, leaf, and, or, imp}
 use Rattle.theory.specs.Term.{Term, Ident, Pair, Fst, Snd, Fn, App, Inl, Inr, Case, Abort, Asc, Unit′}
 use Rattle.theory.specs.Names.{bytesOf}
 use Rattle.theory.specs.WellFormed.{WellNamed}
-use Rattle.theory.specs.Text.{bytes, digits, leafText, formText, nameText, termText}
+use Rattle.theory.specs.Text.{bytes, decimal, leafText, formText, termText}
 use Rattle.theory.proofs.Forms.{snoc-length}
 
 -- the nodes of a tree, each as often as it is written
@@ -56,7 +56,7 @@ pub form-nodes : (A : Form) → formNodes A ≤ length (formText A)
 unfolding formNodes formText bytes
 form-nodes top = omega arith
 form-nodes bot = omega arith
-form-nodes (leaf k s) = omega (arith, length-append (leafText k) (digits 5 s), letter-length k)
+form-nodes (leaf k s) = omega (arith, length-append (leafText k) (decimal s), letter-length k)
 form-nodes (and A B) = omega (arith, form-nodes A, form-nodes B, two-length (formText A) (formText B))
 form-nodes (or A B) = omega (arith, form-nodes A, form-nodes B, two-length (formText A) (formText B))
 form-nodes (imp A B) = omega (arith, form-nodes A, form-nodes B, two-length (formText A) (formText B))
@@ -64,7 +64,7 @@ form-nodes (imp A B) = omega (arith, form-nodes A, form-nodes B, two-length (for
 -- of a term whose names have bytes
 pub term-nodes : (names : List (List ℕ)) (t : Term) → WellNamed (λ x. 1 ≤ length (bytesOf names x)) t →
     termNodes t ≤ length (termText names t)
-unfolding termNodes termText nameText bytesOf bytes
+unfolding termNodes termText bytesOf bytes
 term-nodes n (Ident x) g = g
 term-nodes n (Pair s t) g = omega (arith, term-nodes n s (g .0), term-nodes n t (g .1), two-length (termText n s) (termText n t))
 term-nodes n (Fst t) g = omega (arith, term-nodes n t g, snoc-length (termText n t) 41)

@@ -33,9 +33,7 @@ pub data InWidths (r : ℕ) : List ℕ → List ℕ → Type 0 where
 abbrev pub wordWidths : List ℕ
 wordWidths = 4 ∷ 14 ∷ []
 
--- the house file's little-endian numbers of 16 and of 32 bits: bytes, the last above the others
-abbrev pub shortWidths : List ℕ
-shortWidths = 8 ∷ []
-
-abbrev pub longWidths : List ℕ
-longWidths = 8 ∷ 8 ∷ 8 ∷ []
+-- a little-endian number: a byte for each width and one above them
+abbrev pub byteWidths : List ℕ → List ℕ
+byteWidths [] = []
+byteWidths (b ∷ bs) = 8 ∷ byteWidths bs

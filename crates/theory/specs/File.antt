@@ -9,7 +9,7 @@ use Rattle.theory.specs.NameText.{padded, Written}
 use Rattle.theory.specs.Layout.{nodeWidth}
 use Rattle.theory.specs.Refusal.{BadFile, faultNumber, lackNumber}
 use Rattle.theory.specs.Call.{Claim, Outcome, proved, unprovable, shortage, refused, After, called}
-use Rattle.theory.specs.Text.{bytes, digits}
+use Rattle.theory.specs.Text.{bytes, decimal}
 use Rattle.theory.specs.Writer.{Draft, written}
 
 -- "little-endian": the number of some bytes
@@ -144,7 +144,7 @@ unfoldable pub line : List ℕ → List ℕ
 line bs = bs ++ (10 ∷ [])
 
 unfoldable pub counted : List ℕ → ℕ → List ℕ
-counted what n = line (what ++ digits 7 n)
+counted what n = line (what ++ decimal n)
 
 -- "it prints "refused N" alone"
 unfoldable pub refusedLine : ℕ → List ℕ
