@@ -1,1 +1,5 @@
 pub mod Packed
+pub mod ByKind
+pub mod Walks
+pub mod Room
+pub mod LeafWords

@@ -8,14 +8,14 @@ use Rattle.theory.specs.Form.{pack}
 use Rattle.theory.proofs.Fields.{put-masked}
 
 -- kind and left: the 18 low bits
-low-fields : (k l : ℕ) → bitOr (bitAnd k 15) (bitAnd l 16383 * 2 ^ 4 % 2 ^ 64) ≡ k % 16 + 16 * (l % 16384)
-low-fields k l = put-masked 64 4 14 (bitAnd k 15) l (mask-lt k 4) (lit≤ tt) ∙ ap (λ (n : ℕ). n + 16 * (l % 16384)) (and-mask k 4)
+low-fields : (k l : ℕ) → bitOr (bitAnd k 15) (bitAnd l 16383 * 2 ^ 4 % 2 ^ 32) ≡ k % 16 + 16 * (l % 16384)
+low-fields k l = put-masked 32 4 14 (bitAnd k 15) l (mask-lt k 4) (lit≤ tt) ∙ ap (λ (n : ℕ). n + 16 * (l % 16384)) (and-mask k 4)
 
 pub packed : (k l r : ℕ) →
-    bitOr (bitOr (bitAnd k 15) (bitAnd l 16383 * 2 ^ 4 % 2 ^ 64)) (bitAnd r 16383 * 2 ^ 18 % 2 ^ 64)
+    bitOr (bitOr (bitAnd k 15) (bitAnd l 16383 * 2 ^ 4 % 2 ^ 32)) (bitAnd r 16383 * 2 ^ 18 % 2 ^ 32)
     ≡ pack (k % 16) (l % 16384) (r % 16384)
 packed k l r =
-    put-masked 64 18 14 (bitOr (bitAnd k 15) (bitAnd l 16383 * 2 ^ 4 % 2 ^ 64)) r (omega (arith, low-fields k l)) (lit≤ tt)
+    put-masked 32 18 14 (bitOr (bitAnd k 15) (bitAnd l 16383 * 2 ^ 4 % 2 ^ 32)) r (omega (arith, low-fields k l)) (lit≤ tt)
     ∙ ap (λ (n : ℕ). n + 262144 * (r % 16384)) (low-fields k l)
 
 -- fields within their widths are packed as they are
