@@ -7,8 +7,9 @@ use native.Mathlib.Omega.{arith}
 use lib.ListN.{getD, set}
 use borrow.Author.Tests.{le-leb, lt-leb}
 use Rattle.theory.specs.Meter.{lacking, fits}
+use Rattle.theory.specs.Refusal.{lackNumber}
 use Rattle.context.specs.declared.Limits.{Limits}
-use Rattle.context.specs.Moves.{stretch, most, limitsOf, lackNumber, numberOf}
+use Rattle.context.specs.Moves.{stretch, most, limitsOf, numberOf}
 use Rattle.context.specs.Area.{Rec, none, copies, shifts}
 
 -- while records are left, the first of them is copied

@@ -1,7 +1,8 @@
--- States and sequents after the code's small moves, the limits as theory has them, and the numbers of the shortages. Assumes nothing.
+-- States and sequents after the code's small moves, the limits as theory has them, and the number of a shortage. Assumes nothing.
 use Prim.Native.Nat.{ℕ, _+_, _-_}
 use mathlib.Core.Option.{Option, none, some}
 use Rattle.theory.specs.Meter as M
+use Rattle.theory.specs.Refusal.{lackNumber}
 use Rattle.context.specs.declared.State.{State}
 use Rattle.context.specs.declared.Sequent.{Sequent}
 use Rattle.context.specs.declared.Limits.{Limits}
@@ -48,15 +49,7 @@ limitsOf m = record {
   levels = M.upTo (m .levels);
 }
 
--- 01's number of a shortage, and 0 for none
-unfoldable pub lackNumber : M.Lack → ℕ
-lackNumber M.Steps = 6
-lackNumber M.Names = 7
-lackNumber M.Formulas = 8
-lackNumber M.Terms = 9
-lackNumber M.Contexts = 10
-lackNumber M.Levels = 11
-
+-- the number of the shortage that a charge meets, and 0 for none
 unfoldable pub numberOf : Option M.Lack → ℕ
 numberOf none = 0
 numberOf (some l) = lackNumber l

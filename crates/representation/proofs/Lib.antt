@@ -1,0 +1,9 @@
+pub mod Tables
+pub mod Same
+pub mod Copies
+pub mod Seat
+pub mod Stretch
+pub mod Write
+pub mod Combine
+pub mod Charge
+pub mod Making

@@ -1,0 +1,188 @@
+-- What the code makes for one charge, taken together: the lists still stand for theory's state and for the sequent that comes next.
+-- And the last node of a rule. Assumes nothing.
+use Prim.Native.Nat.{ℕ, suc, _+_, _*_, _≤_, _<_}
+use mathlib.Core.Path.{_≡_, refl, sym, ap, ap₂, _∙_, subst}
+use mathlib.Core.List.{List, [], _∷_, _++_}
+use native.Mathlib.Omega.{arith}
+use lib.ListN.{length, length-append}
+use borrow.Author.Tests.{le-leb, lt-leb}
+use Rattle.theory.specs.Form.{Book}
+use Rattle.theory.specs.Term.{Piece, Rule, Node, node, by}
+use Rattle.theory.specs.Layout.{nodeWidth}
+use Rattle.theory.specs.Refusal.{lackNumber}
+use Rattle.theory.specs.Meter as M
+use Rattle.theory.specs.Meter.{limited, charge, fits, count, spend}
+use Rattle.theory.specs.Search.{close}
+use Rattle.theory.proofs.Charges.{made}
+use Rattle.proof_term.proofs.NodeLaws.{Fitting}
+use Rattle.context.specs.declared.State.{State}
+use Rattle.context.specs.declared.Sequent.{Sequent}
+use Rattle.context.specs.declared.Limits.{Limits}
+use Rattle.context.specs.declared.Answer.{Answer}
+use Rattle.context.specs.declared.Answer.the-variants.{Found, Short}
+use Rattle.context.specs.Moves.{stretch, most, spent, limitsOf}
+use Rattle.context.specs.Area.{Rec, none}
+use Rattle.representation.specs.Reading.{Lent, lent, book, unorderedIn, orderedIn, seqOf, Shows, putNodes}
+use Rattle.representation.specs.Keeping.{Same, Laid, Rooms, Within, Seats, Rep, Frame, Kept}
+use Rattle.representation.specs.Meaning.{says-found, says-short, Comes, asks, Meets}
+use Rattle.representation.specs.Closing.{Closes, closes-short, closes-node}
+use Rattle.representation.proofs.Same.{same-refl, same-less, book-same, take-same, frame-refl, frame-trans, rooms-after}
+use Rattle.representation.proofs.Seat.{unordered-length, ordered-length}
+use Rattle.representation.proofs.Write.{put-same, put-more, AllFit, Words}
+use Rattle.representation.proofs.Combine.{comes-as, comes-now, premise, kept-on}
+use Rattle.representation.proofs.Charge.{words-many, Passes, charge-ok}
+
+by-length : (r : Rule) (ps : List Piece) → length (by r ps) ≡ length ps
+by-length r [] = refl
+by-length r (p ∷ ps) = ap suc (by-length r ps)
+
+-- lists that agree below the fills show the same state
+pub shows-after : {x y : Lent} {s : State} {S : M.State} {l : ℕ} → Frame x (s .formulas) (s .terms) l y → Shows x s S → Shows y s S
+shows-after f sh = record {
+  words = sh .words ∙ sym (book-same (f .words));
+  nodes = sh .nodes ∙ sym (take-same (f .numbers));
+  many = sh .many;
+  used = sh .used;
+  steps = sh .steps;
+}
+
+-- nodes at the fill are as many more
+many-more : (ns : List Node) (r : Rule) (ps : List Piece) {nt : ℕ} → length ns ≡ nt → length (ns ++ by r ps) ≡ nt + length ps
+many-more ns r ps e = length-append ns (by r ps) ∙ omega (arith, by-length r ps)
+
+-- how many records a sequent has
+pub count-seq : (w : List Rec) (q : Sequent) → count (seqOf w q) ≡ q .unordered + q .ordered
+unfolding count
+count-seq w q = ap₂ (λ (a b : ℕ). a + b) (unordered-length w (q .level) (q .unordered)) (ordered-length w (q .level) (q .ordered))
+
+-- the code has made what one charge pays for: indices up to u, words ws, nodes ns; Q comes next
+pub record Made (m : Limits) (x : Lent) (s : State) (q : Sequent) (u : ℕ) (ws : Book) (ns : List Node) (Q : M.Sequent) (x1 : Lent)
+    (s1 : State) (q1 : Sequent) : Type 0 where
+  pub rep : Rep m x1 s1 q1
+  pub frame : Frame x (s .formulas) (s .terms) (q .level) x1
+  pub formulas-up : s .formulas ≤ s1 .formulas
+  pub terms-up : s .terms ≤ s1 .terms
+  pub level-up : q .level ≤ q1 .level
+  pub next : Q ≡ seqOf (x1 .records) q1
+  pub shows : (S : M.State) → Shows x s S → Shows x1 s1 (made S u ws ns)
+  pub room : (S : M.State) → Shows x s S → Passes m u (length (S .words) + length ws) (length (S .nodes) + length ns) (count Q) (Q .level)
+
+-- words, nodes and contexts, each in its own list
+pub made-of : {m : Limits} {x : Lent} {s : State} {q : Sequent} {ws : Book} {f1 t1 : List ℕ} {w1 : List Rec} {s1 : State} {q1 : Sequent}
+    {us os : List M.Entry} (rule : Rule) (u : ℕ) (ps : List Piece) (Q : M.Sequent) → Rep m x s q → Words (x .words) (s .formulas) ws f1 →
+    t1 ≡ putNodes (x .numbers) (s .terms) ps → AllFit ps → s1 ≡ spent s u (length ws) (length ps) → u ≤ most →
+    s .formulas + length ws ≤ m .formulas → s .terms + length ps ≤ m .terms → Same none (q .level * stretch) (x .records) w1 →
+    Seats m (s .formulas + length ws) (s .terms + length ps) w1 q1 us os → q .level ≤ q1 .level →
+    Q ≡ record { unordered = us; ordered = os; goal = q1 .goal; level = q1 .level } →
+    Made m x s q u ws (by rule ps) Q (lent f1 t1 w1) s1 q1
+made-of {m} {x} {s} {q} {ws} {f1} {t1} {w1} {s1} {q1} {us} {os} rule u ps Q rep wo et fitting es hu hf ht area seats lv eq =
+    subst (λ (v : State). Made m x s q u ws (by rule ps) Q (lent f1 t1 w1) v q1) (sym es)
+    (subst (λ (t : List ℕ). Made m x s q u ws (by rule ps) Q (lent f1 t w1) (spent s u (length ws) (length ps)) q1) (sym et) all)
+  where
+    y : Lent
+    y = lent f1 (putNodes (x .numbers) (s .terms) ps) w1
+
+    frame : Frame x (s .formulas) (s .terms) (q .level) y
+    frame = record { words = wo .same; numbers = put-same (x .numbers) (s .terms) ps; records = area }
+
+    seq : Q ≡ seqOf w1 q1
+    seq = eq ∙ ap₂ (λ (u o : List M.Entry). record { unordered = u; ordered = o; goal = q1 .goal; level = q1 .level })
+        (sym (seats .unordered-is)) (sym (seats .ordered-is))
+
+    counted : count Q ≡ q1 .unordered + q1 .ordered
+    counted = ap count seq ∙ count-seq w1 q1
+
+    seats-is : Seats m (s .formulas + length ws) (s .terms + length ps) w1 q1 (unorderedIn w1 (q1 .level) (q1 .unordered))
+        (orderedIn w1 (q1 .level) (q1 .ordered))
+    seats-is = record {
+      level-in = seats .level-in;
+      fits = seats .fits;
+      goal-in = seats .goal-in;
+      unordered-in = seats .unordered-in;
+      ordered-in = seats .ordered-in;
+      unordered-is = refl;
+      ordered-is = refl;
+    }
+
+    room6 : (s .terms + length ps) * nodeWidth ≤ length (x .numbers)
+    room6 = omega (arith, rep .rooms .numbers-room)
+
+    all : Made m x s q u ws (by rule ps) Q y (spent s u (length ws) (length ps)) q1
+    all = record {
+      rep = record {
+        rooms = rooms-after frame (rep .rooms);
+        within = record { in-steps = rep .within .in-steps; in-indices = hu; in-formulas = hf; in-terms = ht };
+        laid = wo .laid (rep .laid);
+        seats = seats-is;
+      };
+      frame = frame;
+      formulas-up = omega arith;
+      terms-up = omega arith;
+      level-up = lv;
+      next = seq;
+      shows = λ S sh. record {
+        words = ap (λ (b : Book). b ++ ws) (sh .words) ∙ sym (wo .books);
+        nodes = put-more rule (x .numbers) (s .terms) ps (S .nodes) fitting room6 (sh .nodes);
+        many = many-more (S .nodes) rule ps (sh .many);
+        used = refl;
+        steps = sh .steps;
+      };
+      room = λ S sh. record {
+        indices = hu;
+        formulas = omega (arith, words-many sh);
+        terms = omega (arith, sh .many, by-length rule ps);
+        contexts = omega (arith, counted, seats .fits);
+        levels = omega (arith, seats .level-in, ap (λ (R : M.Sequent). R .level) eq);
+      };
+    }
+
+module _ {j : M.Judgement} {m : Limits} {taken : List (List ℕ)} {x x1 y : Lent} {s s1 : State} {q q1 : Sequent} {u : ℕ} {ws : Book}
+    {ns : List Node} {Q : M.Sequent} {r : Answer} (mk : Made m x s q u ws ns Q x1 s1 q1) (p : Meets j m taken x1 s1 q1 r y) where
+  -- the charge, and then the premise
+  pub made-asks : {S : M.State} → Shows x s S → Comes y r (λ d. charge (limitsOf m) u ws ns Q S (λ S1. asks m taken d j Q S1))
+  made-asks {S} sh = comes-as _ (λ d. charge-ok m u ws ns Q S (λ S1. asks m taken d j Q S1) (mk .room S sh))
+      (premise p (mk .next) (mk .shows S sh))
+
+  pub made-kept : Kept m x s q r y
+  made-kept = kept-on r (mk .frame) (mk .formulas-up) (mk .terms-up) (mk .level-up) (p .kept)
+
+module _ {m : Limits} {x : Lent} {s : State} {p : Piece} (rooms : Rooms m x) (fitting : Fitting p) where
+  -- the last node of a rule is what theory's rule ends with
+  pub close-comes : {S : M.State} (rule : Rule) → Shows x s S → {r : Answer} {t1 : List ℕ} → Closes m (x .numbers) s p r t1 →
+      Comes (lent (x .words) t1 (x .records)) r (λ d. close (limited (limitsOf m)) (node rule p) S)
+  unfolding close spend fits lackNumber
+  close-comes {S} rule sh (closes-short h) = comes-now (λ d. close (limited (limitsOf m)) (node rule p) S)
+      (λ d. rw (spend, lt-leb (length (S .nodes) + 1) (m .terms) (omega (arith, sh .many)))) (says-short M.Terms refl (sh .steps))
+  close-comes {S} rule sh (closes-node h) = comes-now (λ d. close (limited (limitsOf m)) (node rule p) S)
+      (λ d. rw (spend, le-leb (length (S .nodes) + 1) (m .terms) (omega (arith, sh .many)))
+      (ap (λ (i : ℕ). M.found i (record { words = S .words; nodes = S .nodes ++ (node rule p ∷ []); used = S .used; steps = S .steps }))
+      (sh .many)))
+      (says-found (record {
+        words = sh .words ∙ ap (book (x .words)) (omega arith);
+        nodes = put-more rule (x .numbers) (s .terms) (p ∷ []) (S .nodes) (fitting, tt) (omega (arith, rooms .numbers-room)) (sh .nodes);
+        many = many-more (S .nodes) rule (p ∷ []) (sh .many);
+        used = sh .used;
+        steps = sh .steps;
+      }))
+
+  -- and it leaves alone what was there
+  pub close-kept : {x0 : Lent} {s0 : State} {q : Sequent} → Frame x0 (s0 .formulas) (s0 .terms) (q .level) x → Within m s →
+      Laid (x .words) (s .formulas) → s0 .formulas ≤ s .formulas → s0 .terms ≤ s .terms → {r : Answer} {t1 : List ℕ} →
+      Closes m (x .numbers) s p r t1 → Kept m x0 s0 q r (lent (x .words) t1 (x .records))
+  close-kept fr within ly hf ht (closes-short h) = record { frame = fr; within = within; after = tt }
+  close-kept {q = q} fr within ly hf ht (closes-node h) = record {
+    frame = frame-trans {l1 = q .level} hf ht (omega arith) fr
+        (record { words = same-refl; numbers = put-same (x .numbers) (s .terms) (p ∷ []); records = same-refl });
+    within = record {
+      in-steps = within .in-steps;
+      in-indices = within .in-indices;
+      in-formulas = omega (arith, within .in-formulas);
+      in-terms = h;
+    };
+    after = record {
+      laid = λ i u. ly i (omega arith);
+      formulas-up = omega arith;
+      terms-up = omega arith;
+      root-in = omega arith;
+    };
+  }

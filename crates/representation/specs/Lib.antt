@@ -1,0 +1,5 @@
+pub mod Tables
+pub mod Reading
+pub mod Keeping
+pub mod Meaning
+pub mod Closing
