@@ -12,20 +12,18 @@ use Rattle.theory.specs.NameText.{namesIn, padded}
 use Rattle.theory.specs.Layout.{nodesIn}
 use Rattle.theory.specs.World.{modelOf, ForcesEach, firstWorld}
 use Rattle.theory.specs.Kripke.{Lawful, frame, forces}
-use Rattle.theory.specs.Meter.{fits}
 use Rattle.theory.specs.Written.{assumptions}
 use Rattle.theory.specs.Call.{Claim, searchLimits, givenWords, givenBook, searched, called}
 use Rattle.theory.proofs.Words.{encodes}
 use Rattle.theory.proofs.Finite.{countermodel}
 use Rattle.theory.proofs.Verdict.{unprovable}
-use Rattle.theory.proofs.Named.{names-good}
 use Rattle.theory.proofs.NamesApart.{names-apart}
 use Rattle.theory.proofs.Room.{Kept}
 use Rattle.theory.proofs.Passing.{Passes, passes}
 use Rattle.theory.proofs.Called.{Proves, Fails}
 use Rattle.theory.proofs.Slices.{proved-state, proved-words}
 use Rattle.theory.proofs.LayoutLaws.{unruled}
-use Rattle.theory.proofs.Returned.{sound-search, nodes-decode, term-decode}
+use Rattle.theory.proofs.Returned.{sound-search, nodes-decode, term-decode, names-returned}
 
 module _ (x : Claim) where
   -- the term that comes back derives the goal from the assumptions
@@ -77,13 +75,9 @@ unruled-names P (n ∷ ns) h = (h .0, unruled-names P ns (h .1))
 -- names: two of a proved term or of the assumptions have equal bytes only if their numbers are equal
 module _ (x : Claim) {r n u f t : ℕ} (h : Proves x r n u f t) where
   pub named-within : AllNamesHave (GoodName (skipped (namesIn (x .text))) (length (x .assumed)) u) (nodesIn ((called x) .terms) t)
-  unfolding searched searchLimits fits
   named-within =
-      let g = names-good (searchLimits x) (namesIn (x .text)) (suc (x .stepLimit)) (givenBook x) (x .assumed) (x .goal) tt r (h .state)
-      (h .is) in
       subst (AllNamesHave (GoodName (skipped (namesIn (x .text))) (length (x .assumed)) u)) (sym (nodes-decode x h))
-      (unruled-names (GoodName (skipped (namesIn (x .text))) (length (x .assumed)) u) (h .state .nodes)
-      (subst (λ (k : ℕ). AllNamesHave (GoodName (skipped (namesIn (x .text))) (length (x .assumed)) k) (h .state .nodes)) (h .used) (g .0)))
+      (unruled-names (GoodName (skipped (namesIn (x .text))) (length (x .assumed)) u) (h .state .nodes) (names-returned x h))
 
   pub named-apart : (y z : ℕ) → GoodName (skipped (namesIn (x .text))) (length (x .assumed)) u y →
       GoodName (skipped (namesIn (x .text))) (length (x .assumed)) u z → bytesOf (namesIn (x .text)) y ≡ bytesOf (namesIn (x .text)) z →

@@ -6,15 +6,19 @@ use mathlib.Core.List.{List, [], _∷_, _++_, map, map-append}
 use native.Mathlib.Omega.{arith}
 use lib.ListN.{length, getD, take}
 use Rattle.theory.specs.Form.{Book, form, Good, shape, word, badWord, Ext}
-use Rattle.theory.specs.Term.{Term, Node, Unit′, termOf, growTerms, term, Derives, NodesFrom}
+use Rattle.theory.specs.Term.{Term, Node, Unit′, termOf, growTerms, term, Derives, NodesFrom, AllNamesHave}
 use Rattle.theory.specs.NameText.{namesIn, padded}
-use Rattle.theory.specs.Layout.{nodesIn, inNumbers}
+use Rattle.theory.specs.Names.{skipped, GoodName}
+use Rattle.theory.specs.Meter.{fits}
+use Rattle.theory.specs.Layout.{badTerm, nodesIn, inNumbers}
 use Rattle.theory.specs.Written.{assumptions}
 use Rattle.theory.specs.Call.{Claim, searchLimits, givenWords, givenBook, searched, called}
 use Rattle.theory.proofs.Words.{encodes, AllPack, shape-word}
 use Rattle.theory.proofs.Alike.{AllImply}
 use Rattle.theory.proofs.WordsPass.{later-pack, found-words-pass}
 use Rattle.theory.proofs.LayoutLaws.{unruled, numbers-nodes}
+use Rattle.theory.proofs.MadeNodes.{made-nodes-pass}
+use Rattle.theory.proofs.Named.{names-good}
 use Rattle.theory.proofs.Main.{sound}
 use Rattle.theory.proofs.Room.{Kept}
 use Rattle.theory.proofs.Passing.{Passes, passes}
@@ -90,3 +94,22 @@ module _ (x : Claim) {r n u f t : ℕ} (h : Proves x r n u f t) where
       term (h .state .words) (h .state .nodes) r
   term-decode =
       ap₂ (λ (ws : Book) (ns : List Node). term ws ns r) words-decode nodes-decode ∙ unruled-term (h .state .words) (h .state .nodes) r
+
+  -- the names in the returned nodes are good
+  pub names-returned : AllNamesHave (GoodName (skipped (namesIn (x .text))) (length (x .assumed)) u) (h .state .nodes)
+  unfolding searched searchLimits fits
+  names-returned =
+      subst (λ (k : ℕ). AllNamesHave (GoodName (skipped (namesIn (x .text))) (length (x .assumed)) k) (h .state .nodes)) (h .used)
+      ((names-good (searchLimits x) (namesIn (x .text)) (suc (x .stepLimit)) (givenBook x) (x .assumed) (x .goal) tt r (h .state)
+      (h .is)) .0)
+
+  -- and they pass 13 in the slice that comes back
+  pub nodes-pass : badTerm (namesIn (x .text)) f ((called x) .terms) t r ≡ none
+  unfolding padded
+  nodes-pass =
+      subst (λ (m : ℕ). badTerm (namesIn (x .text)) m ((called x) .terms) t r ≡ none) (h .formulas)
+      (subst (λ (ts : List ℕ). badTerm (namesIn (x .text)) (length (h .state .words)) ts t r ≡ none) (sym (proved-terms x h))
+      (subst (λ (k : ℕ). badTerm (namesIn (x .text)) (length (h .state .words))
+      (padded (length (x .terms)) (inNumbers (h .state .nodes))) k r ≡ none) (h .terms)
+      (made-nodes-pass (namesIn (x .text)) (length (x .assumed)) u (length (h .state .words)) (h .state .nodes) _ r
+      (omega (arith, p .named)) (p .few) ((proved-within x h) .indices) (sound-search .3) names-returned (sound-search .0))))
