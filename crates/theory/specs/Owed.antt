@@ -2,10 +2,12 @@
 use Prim.Native.Nat.{ℕ, _*_, _≤_}
 use mathlib.Core.Path.{_≡_}
 use mathlib.Core.Bool.{true}
+use mathlib.Core.List.{List}
 use lib.Dec.{T}
 use lib.ListN.{length, getD}
 use Rattle.theory.specs.Layout.{nodeWidth}
-use Rattle.theory.specs.Call.{Claim, rightSizes, givenWords, Outcome, proved, unprovable, After}
+use Rattle.theory.specs.Call.{Claim, rightSizes, givenWords, Outcome, proved, unprovable, After, called}
+use Rattle.theory.specs.Writer.{Draft}
 
 -- "all formula words and term nodes above the fills are zero, and every work record is zero"
 pub record ZeroAbove (a : After) (f t : ℕ) : Type 0 where
@@ -30,3 +32,16 @@ pub record Grown (x y : Claim) : Type 0 where
 pub data Decided : Outcome → Type 0 where
   isProved : {r n u f t : ℕ} → Decided (proved r n u f t)
   isUnprovable : {n u f t : ℕ} → Decided (unprovable n u f t)
+
+-- what a proved call leaves, handed to the writer with a buffer
+unfoldable pub draftAfter : Claim → ℕ → ℕ → ℕ → List ℕ → Draft
+draftAfter x root formulas nodes buffer = record {
+  words = (called x) .words;
+  count = formulas;
+  assumptions = length (x .assumed);
+  text = x .text;
+  terms = (called x) .terms;
+  nodes = nodes;
+  root = root;
+  buffer = buffer;
+}
