@@ -1,3 +1,5 @@
 pub mod Powers
 pub mod Sizes
 pub mod Passing
+pub mod Bytes
+pub mod Faults

@@ -1,5 +1,5 @@
 -- What the size of a text's first entry tells: whether there is one, and the parts that hold it and the rest. Assumes nothing.
-use Prim.Native.Nat.{ℕ, zero, suc, _+_, _-_, _≤_, _<_}
+use Prim.Native.Nat.{ℕ, suc, _+_, _-_, _≤_, _<_}
 use mathlib.Core.Path.{_≡_, refl, sym, ap, ap₂, _∙_}
 use mathlib.Core.Bool.{Bool, true, false}
 use mathlib.Core.Option.{Option, none, some}
@@ -71,6 +71,10 @@ first-entry text s e h = go (cutEntry text) refl e
         let rest : drop s text ≡ p .1 = ap₂ (λ (k : ℕ) (t : List ℕ). drop k t) e cut ∙ drop-append-seam (p .0) (p .1) in
         ap₂ {C = Option (List ℕ × List ℕ)} (λ u v. some (u, v)) (sym front) (sym rest)
 
+pub size-of : (text : List ℕ) (p : List ℕ × List ℕ) → cutEntry text ≡ some p → entrySize text ≡ suc (length (p .0))
+unfolding entrySize
+size-of text p c = ap {B = ℕ} (λ (o : Option (List ℕ × List ℕ)). elim o [ none ↦ 0 | some q ↦ suc (length (q .0)) ]) c
+
 -- so the names are that part and the names of the rest
 pub names-cut : (text : List ℕ) (s : ℕ) → s ≡ entrySize text → (s ≡ 0 → ⊥) →
     namesIn text ≡ take (s - 1) (drop 1 text) ∷ namesIn (take (length text - s) (drop s text))
@@ -83,8 +87,4 @@ pub rest-shorter : (text : List ℕ) (s : ℕ) → s ≡ entrySize text → (s �
     length (take (length text - s) (drop s text)) < length text
 rest-shorter text s e h =
     rw (take-all (length text - s) (drop s text) (omega (arith, length-drop s text)))
-    (omega (arith, length-drop s text, size-within text, pos s h))
-  where
-    pos : (s : ℕ) → (s ≡ 0 → ⊥) → 0 < s
-    pos zero h = absurd (h refl)
-    pos (suc n) h = omega arith
+    (omega (arith, length-drop s text, size-within text))

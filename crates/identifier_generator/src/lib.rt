@@ -3,8 +3,10 @@ ghost use mathlib.Core.Path.{_≡_};
 ghost use Prim.Native.Nat.{_/_, _%_, _^_, _≤_};
 ghost use lib.ListN.{length, getD};
 ghost use Rattle.theory.specs.Names.{spell, same, among, skipped, fresh};
-ghost use Rattle.theory.specs.NameText.{namesIn};
+ghost use mathlib.Core.List.{[]};
+ghost use Rattle.theory.specs.NameText.{namesIn, between, nameByte, wellSpelled, lawfulAfter, badName, lookup};
 ghost use Rattle.identifier_generator.specs.Entry.{entrySize};
+ghost use Rattle.identifier_generator.specs.Places.{placeOf};
 
 // How many letters index `i` has.
 pub fn letter_count(i: usize) -> usize
@@ -98,4 +100,155 @@ pub fn fresh(text: &[u8], i: usize) -> usize
         next += 1;
     }
     next
+}
+
+// Where the assumptions' names are faulty.
+pub enum Fault {
+    Nowhere,
+    At(usize),
+}
+
+fn within(low: u8, high: u8, b: u8) -> bool
+    ensures { λ r. ⌜ r ≡ between low high b ⌝ }
+{
+    if b < low {
+        return false;
+    }
+    b <= high
+}
+
+// Whether a name may hold the byte.
+fn name_byte(b: u8) -> bool
+    ensures { λ r. ⌜ r ≡ nameByte b ⌝ }
+{
+    if within(b'A', b'Z', b) {
+        return true;
+    }
+    if within(b'a', b'z', b) {
+        return true;
+    }
+    if within(b'0', b'9', b) {
+        return true;
+    }
+    b == b'_'
+}
+
+// Whether `name` has 1 to 32 bytes, all of them lawful.
+fn well_spelled(name: &[u8]) -> bool
+    ensures { λ r. ⌜ r ≡ wellSpelled (now (name .entry)) ⌝ }
+{
+    if name.len() < 1 {
+        return false;
+    }
+    if 32 < name.len() {
+        return false;
+    }
+    let mut i = 0;
+    while i < name.len() {
+        if name_byte(name[i]) {
+            i += 1;
+        } else {
+            return false;
+        }
+    }
+    true
+}
+
+// Whether two names are the same.
+fn alike(a: &[u8], b: &[u8]) -> bool
+    ensures { λ r. ⌜ r ≡ same (now (a .entry)) (now (b .entry)) ⌝ }
+{
+    if a.len() != b.len() {
+        return false;
+    }
+    let mut i = 0;
+    while i < b.len() {
+        if a[i] != b[i] {
+            return false;
+        }
+        i += 1;
+    }
+    true
+}
+
+// Whether `name` stands among the names of `text`.
+fn stands_in(name: &[u8], text: &[u8]) -> bool
+    ensures { λ r. ⌜ r ≡ among (now (name .entry)) (namesIn (now (text .entry))) ⌝ }
+{
+    let mut rest = text;
+    loop {
+        let size = entry_size(rest);
+        if size == 0 {
+            return false;
+        }
+        if alike(name, &rest[1..size]) {
+            return true;
+        }
+        rest = &rest[size..];
+    }
+}
+
+// Whether an assumption may carry `name` where the names of `earlier` are given already.
+fn lawful(name: &[u8], earlier: &[u8]) -> bool
+    ensures { λ r. ⌜ r ≡ lawfulAfter (namesIn (now (earlier .entry))) (now (name .entry)) ⌝ }
+{
+    if stands_in(name, earlier) {
+        return false;
+    }
+    well_spelled(name)
+}
+
+// The first faulty name of a text that is to hold `count` names; surplus text faults at the count.
+pub fn bad_name(text: &[u8], count: usize) -> Fault
+    ensures { λ r. ⌜ placeOf r ≡ badName count (now (text .entry)) ⌝ }
+{
+    let mut at = 0;
+    let mut place = 0;
+    while place < count {
+        let size = entry_size(&text[at..]);
+        if size == 0 {
+            return Fault::At(place);
+        }
+        let start = at + 1;
+        let end = at + size;
+        if lawful(&text[start..end], &text[..at]) {
+            at = end;
+            place += 1;
+        } else {
+            return Fault::At(place);
+        }
+    }
+    if at < text.len() {
+        return Fault::At(count);
+    }
+    Fault::Nowhere
+}
+
+// Entry `k` of `text`; the empty front of `assumed` where it is cut or missing.
+fn entry<'a>(text: &'a [u8], k: usize, assumed: &'a [u8]) -> &'a [u8]
+    ensures { λ r. ⌜ now r ≡ getD (namesIn (now (text .entry))) k [] ⌝ }
+{
+    let mut rest = text;
+    let mut left = k;
+    loop {
+        let size = entry_size(rest);
+        if size == 0 {
+            return &assumed[..0];
+        }
+        if left == 0 {
+            return &rest[1..size];
+        }
+        rest = &rest[size..];
+        left -= 1;
+    }
+}
+
+// The bytes of name `x`, as a part of the text that holds it.
+pub fn name<'a>(assumed: &'a [u8], generated: &'a [u8], x: usize) -> &'a [u8]
+    ensures { λ r. ⌜ now r ≡ lookup (now (assumed .entry)) (now (generated .entry)) x ⌝ }
+{
+    if x < 64 {
+        return entry(assumed, x, assumed);
+    }
+    entry(generated, x - 64, assumed)
 }

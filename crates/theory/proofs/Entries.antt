@@ -1,16 +1,16 @@
 -- How a text splits into entries: the first one and the rest, and what the names that are skipped hold. Assumes nothing.
-use Prim.Native.Nat.{ℕ, zero, suc, _+_, _≤_}
+use Prim.Native.Nat.{ℕ, zero, suc, _+_, _-_, _≤_, _<_}
 use mathlib.Core.Path.{_≡_, refl, sym, ap, ap₂, _∙_, subst}
 use mathlib.Core.Bool.{Bool, true, false, _||_}
 use mathlib.Core.Option.{Option, none, some}
 use mathlib.Core.List.{List, [], _∷_, _++_}
 use native.Mathlib.Omega.{arith}
-use borrow.Author.Tests.{leb-true, le-leb}
+use borrow.Author.Tests.{leb-true, le-leb, lt-ltb, le-ltb}
 use lib.Dec.{leb}
-use lib.ListN.{length, take, drop, take-append-drop, length-append}
+use lib.ListN.{length, getD, take, drop, take-append-drop, length-append}
 use lib.Seq.{length-take-le, take-append-seam, drop-append-seam}
 use Rattle.theory.specs.Names.{same, among, reserved, skipped}
-use Rattle.theory.specs.NameText.{cutEntry, entriesUpTo, namesIn}
+use Rattle.theory.specs.NameText.{cutEntry, entriesUpTo, namesIn, lookup}
 
 -- a text with a first entry is its length byte, its bytes and the rest
 pub cut-splits : (text : List ℕ) (p : List ℕ × List ℕ) → cutEntry text ≡ some p → text ≡ length (p .0) ∷ (p .0 ++ p .1)
@@ -111,3 +111,16 @@ skipped-found x names e = among-skipped x names ∙ ap (λ (b : Bool). b || amon
 pub skipped-free : (x : List ℕ) (names : List (List ℕ)) → among x names ≡ false → among x (skipped names) ≡ false
 unfolding among
 skipped-free x names e = among-skipped x names ∙ ap (λ (b : Bool). b || among x reserved) e
+
+-- a number below 64 is looked up in the assumptions' text, any other in the generated one
+module _ (assumed generated : List ℕ) (x : ℕ) where
+  abbrev held : Bool → List ℕ
+  held b = elim b [ true ↦ getD (namesIn assumed) x [] | false ↦ getD (namesIn generated) (x - 64) [] ]
+
+  pub lookup-assumed : x < 64 → lookup assumed generated x ≡ getD (namesIn assumed) x []
+  unfolding lookup
+  lookup-assumed h = ap held (lt-ltb x 64 h)
+
+  pub lookup-generated : 64 ≤ x → lookup assumed generated x ≡ getD (namesIn generated) (x - 64) []
+  unfolding lookup
+  lookup-generated h = ap held (le-ltb x 64 h)
