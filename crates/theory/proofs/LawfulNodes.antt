@@ -153,7 +153,7 @@ unfolding badNodeFrom
 next-node names count t i k e = rw (e, badNodeFrom)
 
 -- the lowest bad node is none only where the first passes and the rest has none
-first-passes : (names : List (List ℕ)) (count : ℕ) (t : List ℕ) (i k : ℕ) → badNodeFrom names count t i (suc k) ≡ none →
+pub first-passes : (names : List (List ℕ)) (count : ℕ) (t : List ℕ) (i k : ℕ) → badNodeFrom names count t i (suc k) ≡ none →
     T (lawfulNode names count t i) × (badNodeFrom names count t (suc i) k ≡ none)
 unfolding badNodeFrom
 first-passes names count t i k e = go (lawfulNode names count t i) e

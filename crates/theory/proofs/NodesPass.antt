@@ -13,20 +13,10 @@ use Rattle.theory.specs.NameText.{lastIndex}
 use Rattle.theory.specs.Layout.{nodeWidth, Field, name, child, formula, unused, fieldsOf, lawfulName, lawfulField, lawfulFields}
 use Rattle.theory.specs.Layout.{lawfulNode, badNodeFrom, badTerm, pieceOf, pieceAt, nodesFrom, nodesIn}
 use Rattle.theory.proofs.Tests.{and-left, and-right}
+use Rattle.theory.proofs.LayoutLaws.{piece-numbers}
+use Rattle.theory.proofs.LawfulNodes.{first-passes}
 
--- the pieces of a node's numbers, one place after another
-piece-places : (t : List ℕ) (at : ℕ) → pieceAt t at ≡
-    pieceOf (getD t at 0) (getD t (suc at) 0) (getD t (suc (suc at)) 0) (getD t (suc (suc (suc at))) 0)
-    (getD t (suc (suc (suc (suc at)))) 0) (getD t (suc (suc (suc (suc (suc at))))) 0)
-unfolding pieceAt
-piece-places t at =
-    let one : 1 + at ≡ suc at = omega arith in
-    let two : 2 + at ≡ suc (suc at) = omega arith in
-    let three : 3 + at ≡ suc (suc (suc at)) = omega arith in
-    let four : 4 + at ≡ suc (suc (suc (suc at))) = omega arith in
-    let five : 5 + at ≡ suc (suc (suc (suc (suc at)))) = omega arith in
-    λ j. pieceOf (getD t at 0) (getD t (one j) 0) (getD t (two j) 0) (getD t (three j) 0) (getD t (four j) 0) (getD t (five j) 0)
-
+-- a test that is refused fails
 not-T→false : (b : Bool) → T (not b) → b ≡ false
 not-T→false true t = absurd t
 not-T→false false t = refl
@@ -107,29 +97,23 @@ module _ (names : List (List ℕ)) where
     lawful-piece (suc (suc (suc (suc (suc (suc (suc (suc (suc (suc (suc zero))))))))))) at p = let f = facts at _ p in ((f .0, f .1 .0), tt)
     lawful-piece (suc (suc (suc (suc (suc (suc (suc (suc (suc (suc (suc (suc k)))))))))))) at p = (tt, tt)
 
+-- one node
+node-pass : (names : List (List ℕ)) (count : ℕ) (t : List ℕ) (i : ℕ) → T (lawfulNode names count t i) →
+    NodeIn count i (pieceAt t (i * nodeWidth)) × NamesHave (Lawful names) (pieceAt t (i * nodeWidth))
+unfolding lawfulNode pieceAt
+node-pass names count t i p =
+    subst (λ (n : Piece). NodeIn count i n × NamesHave (Lawful names) n) (sym (piece-numbers t (i * nodeWidth)))
+    (lawful-piece names count i t (getD t (i * nodeWidth) 0) (suc (i * nodeWidth)) p)
+
 nodes-pass-from : (names : List (List ℕ)) (count : ℕ) (t : List ℕ) (i k : ℕ) → badNodeFrom names count t i k ≡ none →
     NodesFrom count i (nodesFrom t i k) × AllNamesHave (Lawful names) (nodesFrom t i k)
-unfolding badNodeFrom nodesFrom lawfulNode
+unfolding nodesFrom
 nodes-pass-from names count t i zero e = (tt, tt)
-nodes-pass-from names count t i (suc k) e = go (lawfulNode names count t i) refl e (nodes-pass-from names count t (suc i) k)
-  where
-    at : ℕ
-    at = i * nodeWidth
-
-    this : T (lawfulNode names count t i) → NodeIn count i (pieceAt t at) × NamesHave (Lawful names) (pieceAt t at)
-    this p = subst (λ (n : Piece). NodeIn count i n × NamesHave (Lawful names) n) (sym (piece-places t at))
-        (lawful-piece names count i t (getD t at 0) (suc at) p)
-
-    go : (b : Bool) → lawfulNode names count t i ≡ b →
-        _≡_ {A = Option ℕ} (elim b [ true ↦ badNodeFrom names count t (suc i) k | false ↦ some i ]) none →
-        (badNodeFrom names count t (suc i) k ≡ none →
-        NodesFrom count (suc i) (nodesFrom t (suc i) k) × AllNamesHave (Lawful names) (nodesFrom t (suc i) k)) →
-        NodesFrom count i (nodesFrom t i (suc k)) × AllNamesHave (Lawful names) (nodesFrom t i (suc k))
-    go true p e ih =
-        let here = this (subst T (sym p) tt) in
-        let more = ih e in
-        ((here .0, more .0), (here .1, more .1))
-    go false p e ih = absurd (let z : _≡_ {A = ℕ} 0 1 = cc in omega arith)
+nodes-pass-from names count t i (suc k) e =
+    let p = first-passes names count t i k e in
+    let here = node-pass names count t i (p .0) in
+    let more = nodes-pass-from names count t (suc i) k (p .1) in
+    ((here .0, more .0), (here .1, more .1))
 
 -- nodes and a root that pass 13
 pub nodes-pass : (names : List (List ℕ)) (count : ℕ) (t : List ℕ) (nodes root : ℕ) → badTerm names count t nodes root ≡ none →

@@ -1,12 +1,12 @@
 -- The text and the depth of a tree, node by node: laws for code that writes a text over falling indices. Assumes nothing.
 use Prim.Native.Nat.{ℕ, zero, suc, _+_, _*_, _<_}
-use mathlib.Core.Path.{_≡_, refl, sym, ap, _∙_}
-use mathlib.Core.List.{List, [], _++_}
+use mathlib.Core.Path.{_≡_, refl, sym, ap, _∙_, subst}
+use mathlib.Core.List.{List, [], _∷_, _++_}
 use native.Mathlib.Nat.{le-of-suc-le-suc, not-suc-le-zero, add-zero, zero-add, add-suc, suc-add}
 use lib.ListN.{length, getD}
 use Rattle.theory.specs.Form.{Shape, isTop, isBot, isLeaf, isAnd, isOr, isImp, Book, look, treeOf, trees, form, Good}
 use Rattle.theory.specs.Term.{Piece, Node, blank, ident, pair, fst, snd, fn, app, inl, inr, case, abort, asc, unit}
-use Rattle.theory.specs.Term.{termOf, growTerms, term, NodesFrom}
+use Rattle.theory.specs.Term.{termOf, growTerms, term, NodeIn, NodesFrom}
 use Rattle.theory.specs.Layout.{nodeWidth, pieceAt, nodesFrom, nodesIn}
 use Rattle.theory.specs.Names.{bytesOf}
 use Rattle.theory.specs.Text.{bytes, decimal, leafText, formText, termText}
@@ -141,3 +141,14 @@ nodes-at t j (suc k) (suc i) h =
 pub node-at : (t : List ℕ) (k i : ℕ) → i < k → (getD (nodesIn t k) i blank) .piece ≡ pieceAt t (i * nodeWidth)
 unfolding nodesIn
 node-at t k i h = nodes-at t 0 k i h ∙ ap (λ (n : ℕ). pieceAt t (n * nodeWidth)) (zero-add i)
+
+nodes-in : (m j : ℕ) (ns : List Node) → NodesFrom m j ns → (i : ℕ) → i < length ns → NodeIn m (j + i) ((getD ns i blank) .piece)
+nodes-in m j [] g i h = absurd (not-suc-le-zero h)
+nodes-in m j (n ∷ ns) g zero h = subst (λ (k : ℕ). NodeIn m k (n .piece)) (sym (add-zero j)) (g .0)
+nodes-in m j (n ∷ ns) g (suc i) h =
+    subst (λ (k : ℕ). NodeIn m k ((getD ns i blank) .piece)) (suc-add j i ∙ sym (add-suc j i))
+    (nodes-in m (suc j) ns (g .1) i (le-of-suc-le-suc h))
+
+-- node i refers to nodes before it and to given formulas
+pub node-in : (m : ℕ) (ns : List Node) → NodesFrom m 0 ns → (i : ℕ) → i < length ns → NodeIn m i ((getD ns i blank) .piece)
+node-in m ns g i h = subst (λ (k : ℕ). NodeIn m k ((getD ns i blank) .piece)) (zero-add i) (nodes-in m 0 ns g i h)
