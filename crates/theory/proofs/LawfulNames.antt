@@ -68,7 +68,7 @@ pub record Lawful (names : List (List ℕ)) : Type 0 where
   pub distinct : Distinct names
 
 -- a name is among the names
-among-at : (names : List (List ℕ)) (i : ℕ) → i < length names → among (getD names i []) names ≡ true
+pub among-at : (names : List (List ℕ)) (i : ℕ) → i < length names → among (getD names i []) names ≡ true
 unfolding among
 among-at [] i h = absurd (omega arith)
 among-at (y ∷ ys) zero h = ap (λ (b : Bool). b || among y ys) (same-refl y)

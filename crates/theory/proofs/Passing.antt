@@ -19,7 +19,7 @@ use Rattle.theory.specs.Refusal.{badGoal}
 use Rattle.theory.specs.Call.{Claim, rightSizes, givenWords, givenBook, refusal}
 use Rattle.theory.proofs.Tests.{and-left, and-right}
 use Rattle.theory.proofs.Words.{decodes}
-use Rattle.theory.proofs.NamesPass.{names-pass}
+use Rattle.theory.proofs.LawfulNames.{good-names}
 
 -- two tests of which none refuses
 pub or-none : (a b : Option Refused) → orElse a b ≡ none → (a ≡ none) × (b ≡ none)
@@ -190,7 +190,7 @@ module _ (x : Claim) where
         few = h .0;
         ins = h .1;
         names = named;
-        named = (names-pass (length (x .assumed)) (x .text) named) .1;
-        distinct = (names-pass (length (x .assumed)) (x .text) named) .0 .apart;
+        named = (good-names (length (x .assumed)) (x .text) named) .count;
+        distinct = (good-names (length (x .assumed)) (x .text) named) .lawful .distinct;
         goal = omega arith;
       }

@@ -18,7 +18,7 @@ use Rattle.theory.specs.WellFormed.{WellNamed}
 use Rattle.theory.specs.Text.{termText}
 use Rattle.theory.specs.Writer.{Draft, writerRefusal, drafted, termDepth, textFitted, notWritten, written}
 use Rattle.theory.proofs.Passing.{or-none, fault-none, unless-none, not-many}
-use Rattle.theory.proofs.NamesPass.{NamesPass, names-pass}
+use Rattle.theory.proofs.LawfulNames.{Lawful, good-names}
 use Rattle.theory.proofs.NodesPass.{nodes-pass}
 use Rattle.theory.proofs.TreesPass.{forms-pass, terms-pass}
 use Rattle.theory.proofs.TermText.{text-determines}
@@ -32,7 +32,7 @@ pub record Drafted (x : Draft) : Type 0 where
   pub sizes : T (formulaSizes (length (x .words)) (x .count) && nodeSizes (length (x .terms)) (x .nodes))
   pub words : badWord (take (x .count) (x .words)) ≡ none
   pub few : x .assumptions ≤ 64
-  pub names : NamesPass (namesIn (x .text))
+  pub names : Lawful (namesIn (x .text))
   pub named : length (namesIn (x .text)) ≡ x .assumptions
   pub nodes : NodesFrom (x .count) 0 (nodesIn (x .terms) (x .nodes))
   pub allowed : AllNamesHave (Allowed x) (nodesIn (x .terms) (x .nodes))
@@ -45,14 +45,14 @@ draft-passes x e =
     let b = or-none _ _ (a .1) in
     let c = or-none _ _ (b .1) in
     let d = or-none _ _ (c .1) in
-    let n = names-pass (x .assumptions) (x .text) (fault-none BadNames _ (d .0)) in
+    let n = good-names (x .assumptions) (x .text) (fault-none BadNames _ (d .0)) in
     let t = nodes-pass (namesIn (x .text)) (x .count) (x .terms) (x .nodes) (x .root) (fault-none BadTerm _ (d .1)) in
     record {
       sizes = unless-none _ (fault-none Sizes _ (a .0));
       words = fault-none BadFormula _ (b .0);
       few = not-many (x .assumptions) (fault-none BadAssumption _ (c .0));
-      names = n .0;
-      named = n .1;
+      names = n .lawful;
+      named = n .count;
       nodes = t .0;
       allowed = t .1;
       root = t .2;
@@ -125,6 +125,6 @@ written-determines x y n a b e =
     let back : WellNamed (Allowed x) (drafted y) =
     subst (λ (t : List ℕ). WellNamed (GoodName (skipped (namesIn t)) (length (namesIn t)) (suc lastIndex)) (drafted y)) (sym n)
     (drafted-named y h) in
-    text-determines (namesIn (x .text)) (suc lastIndex) (subst (λ (k : ℕ). k ≤ 64) (sym (g .named)) (g .few)) (g .names .apart)
-    (g .names .spelled) (drafted x) (drafted y) (drafted-named x g) back
+    text-determines (namesIn (x .text)) (suc lastIndex) (subst (λ (k : ℕ). k ≤ 64) (sym (g .named)) (g .few)) (g .names .distinct)
+    (λ i l. subst T (sym (g .names .spelled i l)) tt) (drafted x) (drafted y) (drafted-named x g) back
     (sym ((written-text x a) .1) ∙ e ∙ (written-text y b) .1 ∙ ap (λ (t : List ℕ). termText (namesIn t) (drafted y)) (sym n))
