@@ -2,12 +2,15 @@
 use Prim.Native.Nat.{ℕ, _*_, _≤_}
 use mathlib.Core.Path.{_≡_}
 use mathlib.Core.Bool.{true}
-use mathlib.Core.List.{List}
+use mathlib.Core.List.{List, []}
 use lib.Dec.{T}
 use lib.ListN.{length, getD}
+use Rattle.theory.specs.Form.{Form, bot, imp, form}
+use Rattle.theory.specs.Term.{Term, Derives}
 use Rattle.theory.specs.Layout.{nodeWidth}
-use Rattle.theory.specs.Call.{Claim, rightSizes, givenWords, Outcome, proved, unprovable, After, called}
+use Rattle.theory.specs.Call.{Claim, rightSizes, givenWords, givenBook, Outcome, proved, unprovable, shortage, refused, After, called}
 use Rattle.theory.specs.Writer.{Draft}
+use Rattle.theory.specs.Status.{Solvable, Unsolvable, Unknown, Status, settled, ranShort, rejected, Inquiry, firstClaim, goalIsOpen}
 
 -- "all formula words and term nodes above the fills are zero, and every work record is zero"
 pub record ZeroAbove (a : After) (f t : ℕ) : Type 0 where
@@ -45,3 +48,16 @@ draftAfter x root formulas nodes buffer = record {
   root = root;
   buffer = buffer;
 }
+
+-- the formula that a status is asked for
+abbrev pub asksFor : Inquiry → Form
+asksFor x = form (givenBook (firstClaim x)) (x .goal)
+
+-- what a status says of the goal, which no assumption helps to prove
+abbrev pub Says : Inquiry → Status → Type 0
+Says x (settled Solvable) = (s : Term) × Derives [] s (asksFor x)
+Says x (settled Unsolvable) =
+    ((s : Term) → Derives [] s (asksFor x) → ⊥) × (T (goalIsOpen x) → (s : Term) × Derives [] s (imp (asksFor x) bot))
+Says x (settled Unknown) = ((s : Term) → Derives [] s (asksFor x) → ⊥) × T (goalIsOpen x)
+Says x (ranShort l n) = (called (firstClaim x)) .outcome ≡ shortage l n
+Says x (rejected f i) = (called (firstClaim x)) .outcome ≡ refused f i
