@@ -15,7 +15,8 @@ use Rattle.theory.specs.Call.{Claim, refusal, searchLimits, givenBook, s
 use Rattle.theory.specs.Call.{After, givenBack, unchanged, answered, called}
 use Rattle.theory.proofs.Steps.{steps-suffice}
 use Rattle.theory.proofs.Written.{one-answer, has-log, exact-answer}
-use Rattle.theory.proofs.Passing.{Passes, passes}
+use Rattle.theory.specs.Owed.{Passes}
+use Rattle.theory.proofs.Passing.{passes}
 
 module _ (x : Claim) where
   -- the step limit bounds the depth
@@ -47,9 +48,13 @@ module _ (x : Claim) where
   logged-call e =
       let p : Passes x = passes x e in has-log (namesIn (x .text)) (givenBook x) (x .assumed) (x .goal) (p .good) (p .ins) (p .goal)
 
+  pub read-search : (l : Logged) → Logs (namesIn (x .text)) (givenBook x) (x .assumed) (x .goal) l →
+      searched x ≡ readOff (searchLimits x) l
+  read-search l h = only-answer (exact-answer (searchLimits x) h)
+
   pub read-call : refusal x ≡ none → (l : Logged) → Logs (namesIn (x .text)) (givenBook x) (x .assumed) (x .goal) l →
       called x ≡ answered x (readOff (searchLimits x) l)
-  read-call e l h = passed-call e ∙ ap (answered x) (only-answer (exact-answer (searchLimits x) h))
+  read-call e l h = passed-call e ∙ ap (answered x) (read-search l h)
 
 -- a proved claim: its search found a term
 pub record Proves (x : Claim) (r n u f t : ℕ) : Type 0 where

@@ -1,9 +1,11 @@
 -- What a decided outcome promises: the returned term derives the goal, or a countermodel stands against it. Assumes nothing.
-use Prim.Native.Nat.{ℕ, suc, _<_}
+use Prim.Native.Nat.{ℕ, suc, _≤_, _<_}
 use mathlib.Core.Path.{_≡_, sym, ap, _∙_, subst}
+use mathlib.Core.Bool.{Bool, true, false}
+use mathlib.Core.Option.{none}
 use mathlib.Core.List.{List, [], _∷_, _++_, map, map-append, append-assoc}
 use native.Mathlib.Omega.{arith}
-use lib.ListN.{length, take}
+use lib.ListN.{length, take, replicate}
 use lib.Seq.{take-at}
 use Rattle.theory.specs.Form.{form, shape, word}
 use Rattle.theory.specs.Term.{Node, Term, term, Derives, AllNamesHave}
@@ -13,15 +15,19 @@ use Rattle.theory.specs.Layout.{nodesIn}
 use Rattle.theory.specs.World.{modelOf, ForcesEach, firstWorld}
 use Rattle.theory.specs.Kripke.{Lawful, frame, forces}
 use Rattle.theory.specs.Written.{assumptions}
-use Rattle.theory.specs.Call.{Claim, searchLimits, givenWords, givenBook, searched, called}
+use Rattle.theory.specs.Call.{Claim, searchLimits, givenWords, givenBook, refusal, searched, Outcome, After, recordsAfter, unchanged}
+use Rattle.theory.specs.Call.{called}
+use Rattle.theory.specs.Owed.{FitIn, Passes}
+use Rattle.theory.proofs.Forms.{ext-length}
 use Rattle.theory.proofs.Words.{encodes}
 use Rattle.theory.proofs.Finite.{countermodel}
 use Rattle.theory.proofs.Verdict.{unprovable}
 use Rattle.theory.proofs.NamesApart.{names-apart}
 use Rattle.theory.proofs.Room.{Kept}
-use Rattle.theory.proofs.Passing.{Passes, passes}
-use Rattle.theory.proofs.Called.{Proves, Fails}
-use Rattle.theory.proofs.Slices.{proved-state, proved-words}
+use Rattle.theory.proofs.Passing.{not-both, passes}
+use Rattle.theory.proofs.Called.{Proves, Fails, Told, t-proved, t-unprovable, t-shortage, t-refused, told}
+use Rattle.theory.proofs.Slices.{ProvedWithin, proved-within, failed-within, short-within, proved-state, proved-words, proved-clear}
+use Rattle.theory.proofs.Slices.{back-clear, back-front}
 use Rattle.theory.proofs.LayoutLaws.{unruled}
 use Rattle.theory.proofs.Returned.{sound-search, nodes-decode, term-decode, names-returned}
 
@@ -87,3 +93,40 @@ module _ (x : Claim) {r n u f t : ℕ} (h : Proves x r n u f t) where
       names-apart (namesIn (x .text)) u (omega (arith, p .named, p .few)) (p .distinct) y z
       (subst (λ (k : ℕ). GoodName (skipped (namesIn (x .text))) k u y) (sym (p .named)) a)
       (subst (λ (k : ℕ). GoodName (skipped (namesIn (x .text))) k u z) (sym (p .named)) b) e
+
+-- every number that comes back is within what was lent
+pub numbers-fit : (x : Claim) → FitIn x ((called x) .outcome)
+numbers-fit x = go (told x)
+  where
+    go : {o : Outcome} → Told x o → FitIn x o
+    go (t-proved {r} {n} {u} {f} {t} h) =
+        let w : ProvedWithin x n u f t = proved-within x h in
+        let given : x .count ≤ f =
+        omega (arith, (passes x (h .passed)) .book, ext-length ((sound-search x h) .1), h .formulas) in
+        (w .steps, w .indices, given, w .formulas, proved-root x h, w .terms)
+    go (t-unprovable h) = let w = failed-within x h in (w .0, w .1, h .formulas, h .terms)
+    go (t-shortage h) = short-within x h
+    go (t-refused h) = tt
+
+-- the given words stand where they stood, whatever the outcome
+pub given-stands : (x : Claim) → take (x .count) ((called x) .words) ≡ givenWords x
+unfolding unchanged givenWords
+given-stands x = go (told x)
+  where
+    go : {o : Outcome} → Told x o → take (x .count) ((called x) .words) ≡ givenWords x
+    go (t-proved h) = proved-given x h
+    go (t-unprovable h) = back-front x (h .passed) _ (h .after)
+    go (t-shortage h) = back-front x (h .passed) _ (h .after)
+    go (t-refused h) = ap (λ (a : After). take (x .count) (a .words)) (h .after)
+
+-- every record is zero after a search
+pub records-after : (x : Claim) {R : Type 0} (z : R) (rs : List R) → refusal x ≡ none →
+    recordsAfter z (called x) rs ≡ replicate (length rs) z
+unfolding recordsAfter
+records-after x {R} z rs e = ap (λ (b : Bool). elim b as (λ y. List R) [ true ↦ replicate (length rs) z | false ↦ rs ]) (go (told x))
+  where
+    go : {o : Outcome} → Told x o → (called x) .cleared ≡ true
+    go (t-proved h) = (proved-clear x h) .records
+    go (t-unprovable h) = (back-clear x (h .passed) _ (h .after)) .records
+    go (t-shortage h) = (back-clear x (h .passed) _ (h .after)) .records
+    go (t-refused h) = absurd (not-both (refusal x) e (h .is))

@@ -8,15 +8,15 @@ use native.Mathlib.Omega.{arith}
 use lib.Dec.{T, leb, ltb, eqb, leb→le, le→leb, ltb→lt, eqb→eq}
 use lib.ListN.{length, take, length-map}
 use lib.Seq.{length-take-le}
-use Rattle.theory.specs.Form.{Book, Good, shape, badWord}
-use Rattle.theory.specs.NameText.{namesIn, badName}
-use Rattle.theory.specs.Names.{Distinct}
+use Rattle.theory.specs.Form.{Book, shape, badWord}
+use Rattle.theory.specs.NameText.{badName}
 use Rattle.theory.specs.Layout.{nodeWidth}
 use Rattle.theory.specs.Written.{AllIn}
 use Rattle.theory.specs.Refusal.{Fault, Sizes, BadFormula, BadAssumption, BadNames, BadGoal, Refused, faultAt, orElse, unless}
 use Rattle.theory.specs.Refusal.{formulaSizes, termSizes, highestLevel, isSome, workSizes, tooMany, outsideFrom, badAssumption}
 use Rattle.theory.specs.Refusal.{badGoal}
 use Rattle.theory.specs.Call.{Claim, rightSizes, givenWords, givenBook, refusal}
+use Rattle.theory.specs.Owed.{Passes}
 use Rattle.theory.proofs.Tests.{and-left, and-right}
 use Rattle.theory.proofs.Words.{decodes}
 use Rattle.theory.proofs.LawfulNames.{good-names}
@@ -31,6 +31,10 @@ pub none-or : (a b : Option Refused) → a ≡ none → b ≡ none → orElse a 
 unfolding orElse
 none-or none b p q = q
 none-or (some r) b p q = p
+
+-- what is refused does not pass
+pub not-both : {r : Refused} (o : Option Refused) → o ≡ none → o ≡ some r → ⊥
+not-both o p q = let z : _≡_ {A = ℕ} 0 1 = cc in omega arith
 
 -- no place, no fault
 pub fault-none : (f : Fault) (o : Option ℕ) → faultAt f o ≡ none → o ≡ none
@@ -121,26 +125,6 @@ work-sizes records steps t = (
   records-pass records (and-left (isSome (highestLevel records)) (leb steps 1000000) t),
   leb→le steps 1000000 (and-right (isSome (highestLevel records)) (leb steps 1000000) t),
 )
-
--- what a claim has that passes 1 to 5
-pub record Passes (x : Claim) : Type 0 where
-  pub sizes : T (rightSizes x)
-  pub few-words : length (x .words) ≤ 16384
-  pub given : x .count ≤ length (x .words)
-  pub counted : length (givenWords x) ≡ x .count
-  pub whole-nodes : length (x .terms) % nodeWidth ≡ 0
-  pub few-terms : length (x .terms) ≤ 16384 * nodeWidth
-  pub records : x .records ≡ 16384
-  pub few-steps : x .stepLimit ≤ 1000000
-  pub words : badWord (givenWords x) ≡ none
-  pub good : Good (givenBook x)
-  pub book : length (givenBook x) ≡ x .count
-  pub few : length (x .assumed) ≤ 64
-  pub ins : AllIn (givenBook x) (x .assumed)
-  pub names : badName (length (x .assumed)) (x .text) ≡ none
-  pub named : length (namesIn (x .text)) ≡ length (x .assumed)
-  pub distinct : Distinct (namesIn (x .text))
-  pub goal : x .goal < length (givenBook x)
 
 module _ (x : Claim) where
   pub formula-part : T (rightSizes x) → T (formulaSizes (length (x .words)) (x .count))

@@ -21,7 +21,8 @@ use Rattle.theory.proofs.MadeNodes.{made-nodes-pass}
 use Rattle.theory.proofs.Named.{names-good}
 use Rattle.theory.proofs.Main.{sound}
 use Rattle.theory.proofs.Room.{Kept}
-use Rattle.theory.proofs.Passing.{Passes, passes}
+use Rattle.theory.specs.Owed.{Passes}
+use Rattle.theory.proofs.Passing.{passes}
 use Rattle.theory.proofs.Called.{Proves}
 use Rattle.theory.proofs.Slices.{proved-state, proved-within, starts-within, proved-terms, front-words}
 

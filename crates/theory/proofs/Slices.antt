@@ -11,14 +11,14 @@ use Rattle.theory.specs.Form.{word}
 use Rattle.theory.specs.NameText.{namesIn, padded}
 use Rattle.theory.specs.Layout.{nodeWidth, inNumbers}
 use Rattle.theory.specs.Search.{given}
-use Rattle.theory.specs.Meter.{Within, fits, Steps, found, short}
+use Rattle.theory.specs.Meter.{Within, fits, Lack, Steps, found, failed, short}
 use Rattle.theory.specs.Call.{Claim, refusal, searchLimits, givenWords, givenBook, searched, Outcome, proved, shortage, After}
 use Rattle.theory.specs.Call.{givenBack, unchanged, answered, called}
-use Rattle.theory.specs.Owed.{ZeroAbove}
-use Rattle.theory.proofs.Room.{Kept, Bounded, b-found, b-short, bounded}
+use Rattle.theory.specs.Owed.{ZeroAbove, Passes}
+use Rattle.theory.proofs.Room.{Kept, Bounded, b-found, b-failed, b-short, bounded}
 use Rattle.theory.proofs.LayoutLaws.{in-numbers-length}
-use Rattle.theory.proofs.Passing.{Passes, passes}
-use Rattle.theory.proofs.Called.{Proves, RunsShort, Told, t-proved, t-unprovable, t-shortage, t-refused, told}
+use Rattle.theory.proofs.Passing.{passes}
+use Rattle.theory.proofs.Called.{Proves, Fails, RunsShort, Told, t-proved, t-unprovable, t-shortage, t-refused, told}
 
 abbrev zeros : ℕ → List ℕ
 zeros n = replicate n 0
@@ -91,6 +91,20 @@ module _ (x : Claim) where
         formulas = omega (arith, h .formulas);
         terms = omega (arith, h .terms);
       }
+
+  pub failed-within : {n u f t : ℕ} → Fails x n u f t → (n ≤ x .stepLimit) × (u ≤ 4096)
+  unfolding searchLimits fits
+  failed-within {n} {u} h = go (subst (Bounded (searchLimits x) (givenBook x)) (h .is) (bounded-call x (h .passed)))
+    where
+      go : Bounded (searchLimits x) (givenBook x) (failed u n (h .tree)) → (n ≤ x .stepLimit) × (u ≤ 4096)
+      go (b-failed a b) = (leb→le n (x .stepLimit) a, leb→le u 4096 b)
+
+  pub short-within : {l : Lack} {n : ℕ} → RunsShort x l n → n ≤ x .stepLimit
+  unfolding searchLimits fits
+  short-within {l} {n} h = go (subst (Bounded (searchLimits x) (givenBook x)) (h .is) (bounded-call x (h .passed)))
+    where
+      go : Bounded (searchLimits x) (givenBook x) (short l n) → n ≤ x .stepLimit
+      go (b-short a b) = leb→le n (x .stepLimit) a
 
   -- a shortage of steps comes at the limit
   pub steps-at-limit : {n : ℕ} → RunsShort x Steps n → n ≡ x .stepLimit

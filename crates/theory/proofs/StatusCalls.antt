@@ -20,11 +20,11 @@ use Rattle.theory.specs.Call.{rightSizes, givenWords, givenBook, refusal
 use Rattle.theory.specs.Call.{unchanged, called}
 use Rattle.theory.specs.Status.{Unsolvable, Status, settled, ranShort, rejected, refuted, judged, Inquiry, firstClaim, secondClaim}
 use Rattle.theory.specs.Status.{secondOutcome, goalIsOpen, Asked, cleanedUp, leftBy, asked}
-use Rattle.theory.specs.Owed.{asksFor, Says}
+use Rattle.theory.specs.Owed.{asksFor, Says, Passes}
 use Rattle.theory.proofs.Tests.{and-T}
 use Rattle.theory.proofs.Words.{shape-word, words-pass, passes-append}
 use Rattle.theory.proofs.Forms.{snoc-length, ext-by, At, at-ext, at-form, at-new, good-more, imp-new}
-use Rattle.theory.proofs.Passing.{none-or, none-fault, none-unless, term-part, work-part, Passes, passes}
+use Rattle.theory.proofs.Passing.{not-both, none-or, none-fault, none-unless, term-part, work-part, passes}
 use Rattle.theory.proofs.Called.{Proves, Fails, Told, t-proved, t-unprovable, t-shortage, t-refused, told, is-refused, refused-call}
 use Rattle.theory.proofs.Slices.{padded-length}
 use Rattle.theory.proofs.Outcomes.{proved-derives, failed-none}
@@ -146,10 +146,6 @@ asked-status x = go (judged ((called (firstClaim x)) .outcome) (goalIsOpen x) (s
     go (settled v) = refl
     go (ranShort l n) = refl
     go (rejected f i) = refl
-
--- a search that was refused did not pass
-not-both : {r : Refused} (o : Option Refused) → o ≡ none → o ≡ some r → ⊥
-not-both o p q = let z : _≡_ {A = ℕ} 0 1 = cc in omega arith
 
 module _ (x : Inquiry) where
   -- the second search: proved, it derives the negation; else it says nothing

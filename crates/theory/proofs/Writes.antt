@@ -18,9 +18,9 @@ use Rattle.theory.specs.Text.{termText}
 use Rattle.theory.specs.Refusal.{Sizes, BadFormula, BadAssumption, BadNames, BadTerm, Refused, formulaSizes, termSizes, nodeSizes}
 use Rattle.theory.specs.Writer.{termDepth, Draft, writerRefusal, drafted, textFitted, notWritten, written}
 use Rattle.theory.specs.Call.{Claim, called}
-use Rattle.theory.specs.Owed.{draftAfter}
+use Rattle.theory.specs.Owed.{draftAfter, Passes}
 use Rattle.theory.proofs.Tests.{and-T}
-use Rattle.theory.proofs.Passing.{none-or, none-fault, none-unless, few-enough, term-part, Passes, passes}
+use Rattle.theory.proofs.Passing.{none-or, none-fault, none-unless, few-enough, term-part, passes}
 use Rattle.theory.proofs.Called.{Proves}
 use Rattle.theory.proofs.Slices.{padded-length, ProvedWithin, proved-within, lengths}
 use Rattle.theory.proofs.Returned.{words-pass, nodes-pass}

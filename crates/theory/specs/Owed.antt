@@ -1,16 +1,40 @@
 -- What is owed after a call, and claims that differ in room alone: the words of the whole call's theorems. Assumes nothing.
-use Prim.Native.Nat.{ℕ, _*_, _≤_}
+use Prim.Native.Nat.{ℕ, _*_, _%_, _≤_, _<_}
 use mathlib.Core.Path.{_≡_}
 use mathlib.Core.Bool.{true}
+use mathlib.Core.Option.{none}
 use mathlib.Core.List.{List, []}
 use lib.Dec.{T}
 use lib.ListN.{length, getD}
-use Rattle.theory.specs.Form.{Form, bot, imp, form}
+use Rattle.theory.specs.Form.{Form, bot, imp, form, badWord, Good}
+use Rattle.theory.specs.Names.{Distinct}
+use Rattle.theory.specs.NameText.{namesIn, badName}
+use Rattle.theory.specs.Written.{AllIn}
 use Rattle.theory.specs.Term.{Term, Derives}
 use Rattle.theory.specs.Layout.{nodeWidth}
 use Rattle.theory.specs.Call.{Claim, rightSizes, givenWords, givenBook, Outcome, proved, unprovable, shortage, refused, After, called}
 use Rattle.theory.specs.Writer.{Draft}
 use Rattle.theory.specs.Status.{Solvable, Unsolvable, Unknown, Status, settled, ranShort, rejected, Inquiry, firstClaim, goalIsOpen}
+
+-- what a claim has that passes 1 to 5
+pub record Passes (x : Claim) : Type 0 where
+  pub sizes : T (rightSizes x)
+  pub few-words : length (x .words) ≤ 16384
+  pub given : x .count ≤ length (x .words)
+  pub counted : length (givenWords x) ≡ x .count
+  pub whole-nodes : length (x .terms) % nodeWidth ≡ 0
+  pub few-terms : length (x .terms) ≤ 16384 * nodeWidth
+  pub records : x .records ≡ 16384
+  pub few-steps : x .stepLimit ≤ 1000000
+  pub words : badWord (givenWords x) ≡ none
+  pub good : Good (givenBook x)
+  pub book : length (givenBook x) ≡ x .count
+  pub few : length (x .assumed) ≤ 64
+  pub ins : AllIn (givenBook x) (x .assumed)
+  pub names : badName (length (x .assumed)) (x .text) ≡ none
+  pub named : length (namesIn (x .text)) ≡ length (x .assumed)
+  pub distinct : Distinct (namesIn (x .text))
+  pub goal : x .goal < length (givenBook x)
 
 -- "all formula words and term nodes above the fills are zero, and every work record is zero"
 pub record ZeroAbove (a : After) (f t : ℕ) : Type 0 where
@@ -30,6 +54,14 @@ pub record Grown (x y : Claim) : Type 0 where
   pub records : x .records ≤ y .records
   pub steps : x .stepLimit ≤ y .stepLimit
   pub sizes : T (rightSizes y)
+
+-- the numbers of an outcome are within what was lent
+abbrev pub FitIn : Claim → Outcome → Type 0
+FitIn x (proved r n u f t) =
+    (n ≤ x .stepLimit) × (u ≤ 4096) × (x .count ≤ f) × (f ≤ length (x .words)) × (r < t) × (t * nodeWidth ≤ length (x .terms))
+FitIn x (unprovable n u f t) = (n ≤ x .stepLimit) × (u ≤ 4096) × (f ≡ x .count) × (t ≡ 0)
+FitIn x (shortage l n) = n ≤ x .stepLimit
+FitIn x (refused f i) = Unit {0}
 
 -- Proved or Unprovable
 pub data Decided : Outcome → Type 0 where

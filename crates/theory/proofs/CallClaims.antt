@@ -1,0 +1,211 @@
+-- What is claimed of the whole call, of the writer's and of the status', each claim in its final form; the proofs stand in the modules
+-- cited. Assumes nothing.
+use Prim.Native.Nat.{ℕ, _*_, _+_, _≤_, _<_}
+use mathlib.Core.Path.{_≡_, sym, ap, _∙_, subst}
+use mathlib.Core.Bool.{false}
+use mathlib.Core.Option.{none, some}
+use mathlib.Core.Logic.{_≢_, _⊎_, _↔_}
+use mathlib.Core.List.{List, map}
+use lib.ListN.{length, take, replicate}
+use Rattle.theory.specs.Form.{form, shape, badWord}
+use Rattle.theory.specs.Term.{Term, term, Derives, AllNamesHave}
+use Rattle.theory.specs.Names.{skipped, bytesOf, GoodName}
+use Rattle.theory.specs.NameText.{namesIn, padded, emptied, nameAlone}
+use Rattle.theory.specs.Layout.{nodeWidth, nodesIn, badTerm}
+use Rattle.theory.specs.World.{Tree, modelOf, ForcesEach, firstWorld}
+use Rattle.theory.specs.Kripke.{Lawful, frame, forces}
+use Rattle.theory.specs.Meter.{Lack, Steps, short, unfinished}
+use Rattle.theory.specs.Log.{Logged, readOff}
+use Rattle.theory.specs.Written.{assumptions, Logs}
+use Rattle.theory.specs.Text.{termText}
+use Rattle.theory.specs.Refusal.{Fault, Refused}
+use Rattle.theory.specs.Call.{Claim, givenWords, givenBook, refusal, searchLimits, searched, proved, unprovable, shortage, refused}
+use Rattle.theory.specs.Call.{After, recordsAfter, givenBack, unchanged, answered, called}
+use Rattle.theory.specs.Writer.{termDepth, Draft, writerRefusal, drafted, written}
+use Rattle.theory.specs.Status.{rejected, Inquiry, firstClaim, secondClaim, secondOutcome, cleanedUp, asked}
+use Rattle.theory.specs.Owed.{ZeroAbove, Grown, FitIn, Decided, draftAfter, Says, Passes}
+use Rattle.theory.proofs.Written.{one-log-only}
+use Rattle.theory.proofs.Passing.{passes}
+use Rattle.theory.proofs.Called
+use Rattle.theory.proofs.Slices
+use Rattle.theory.proofs.Returned
+use Rattle.theory.proofs.Outcomes
+use Rattle.theory.proofs.MoreRoom
+use Rattle.theory.proofs.Writes
+use Rattle.theory.proofs.StatusCalls
+
+module _ (x : Claim) where
+  -- "each call ends with an answer or a refusal": the step limit bounds the depth, so that the search is never unfinished
+  pub never-unfinished : searched x ≢ unfinished
+  never-unfinished = Called.never-unfinished x
+
+  -- a refusal comes exactly when one of the tests 1 to 5 refuses, with the fault and the place of the first that does
+  pub refused-exactly : (f : Fault) (i : ℕ) → ((called x) .outcome ≡ refused f i) ↔ (refusal x ≡ some (record { fault = f; place = i }))
+  unfolding unchanged
+  refused-exactly f i = (λ e. (Called.is-refused x e) .is, λ e. ap (λ (a : After). a .outcome) (Called.refused-call x e))
+
+  -- "a refused input changes no buffer"
+  pub refused-unchanged : {f : Fault} {i : ℕ} → (called x) .outcome ≡ refused f i →
+      ((called x) .words ≡ x .words) × ((called x) .terms ≡ x .terms) × ((called x) .cleared ≡ false)
+  unfolding unchanged
+  refused-unchanged e =
+      let h = Called.is-refused x e in
+      (ap (λ (a : After). a .words) (h .after), ap (λ (a : After). a .terms) (h .after), ap (λ (a : After). a .cleared) (h .after))
+
+  -- a claim that is not refused has what the search's theorems ask for
+  pub passed-facts : refusal x ≡ none → Passes x
+  passed-facts = passes x
+
+  -- no slice changes its length
+  pub lengths-kept : (length ((called x) .words) ≡ length (x .words)) × (length ((called x) .terms) ≡ length (x .terms))
+  lengths-kept = Slices.lengths x
+
+  -- the numbers that come back are within what was lent
+  pub numbers-fit : FitIn x ((called x) .outcome)
+  numbers-fit = Outcomes.numbers-fit x
+
+  -- "6 to 11 return the steps entered (for 6, the limit)"
+  pub shortage-steps : {n : ℕ} → (called x) .outcome ≡ shortage Steps n → n ≡ x .stepLimit
+  shortage-steps e = Slices.steps-at-limit x (Called.runs-short x e)
+
+  -- "the given formula words are unchanged", whatever the outcome
+  pub given-kept : take (x .count) ((called x) .words) ≡ givenWords x
+  given-kept = Outcomes.given-stands x
+
+  -- "all formula words and term nodes above the fills are zero (after 6 to 11, all above the given count and above 0), and every work
+  -- record is zero"
+  pub proved-zero : {r n u f t : ℕ} → (called x) .outcome ≡ proved r n u f t → ZeroAbove (called x) f t
+  proved-zero e = Slices.proved-clear x (Called.proves x e)
+
+  pub unprovable-zero : {n u f t : ℕ} → (called x) .outcome ≡ unprovable n u f t → ZeroAbove (called x) f t
+  unprovable-zero {n} {u} {f} {t} e =
+      let h = Called.fails x e in
+      subst (ZeroAbove (called x) f) (sym (h .terms)) (subst (λ (k : ℕ). ZeroAbove (called x) k 0) (sym (h .formulas))
+      (Slices.back-clear x (h .passed) _ (h .after)))
+
+  pub shortage-zero : {l : Lack} {n : ℕ} → (called x) .outcome ≡ shortage l n → ZeroAbove (called x) (x .count) 0
+  shortage-zero e = let h = Called.runs-short x e in Slices.back-clear x (h .passed) _ (h .after)
+
+  pub records-zero : {R : Type 0} (z : R) (rs : List R) → refusal x ≡ none → recordsAfter z (called x) rs ≡ replicate (length rs) z
+  records-zero = Outcomes.records-after x
+
+  pub records-kept : {R : Type 0} (z : R) (rs : List R) {r : Refused} → refusal x ≡ some r → recordsAfter z (called x) rs ≡ rs
+  unfolding unchanged recordsAfter
+  records-kept z rs e = ap (λ (a : After). recordsAfter z a rs) (Called.refused-call x e)
+
+  -- "a shortage exactly when the limit is passed": the answer is read off the one log of the search without limits
+  pub exact-call : refusal x ≡ none → (l : Logged) × Logs (namesIn (x .text)) (givenBook x) (x .assumed) (x .goal) l ×
+      (called x ≡ answered x (readOff (searchLimits x) l))
+  exact-call e = let l = Called.logged-call x e in (l .0, l .1, Called.read-call x e (l .0) (l .1))
+
+  pub log-only : {l m : Logged} → Logs (namesIn (x .text)) (givenBook x) (x .assumed) (x .goal) l →
+      Logs (namesIn (x .text)) (givenBook x) (x .assumed) (x .goal) m → l ≡ m
+  log-only = one-log-only
+
+  pub exact-shortage : refusal x ≡ none → (l : Logged) → Logs (namesIn (x .text)) (givenBook x) (x .assumed) (x .goal) l →
+      (k : Lack) (n : ℕ) → ((called x) .outcome ≡ shortage k n) ↔ (readOff (searchLimits x) l ≡ short k n)
+  unfolding answered givenBack
+  exact-shortage e l h k n = (
+    λ q. sym (Called.read-search x l h) ∙ (Called.runs-short x q) .is,
+    λ q. ap (λ (a : After). a .outcome) (Called.read-call x e l h ∙ ap (answered x) q),
+  )
+
+  -- "Proved derives": the term that comes back derives the goal from the assumptions, and its root is one of its nodes
+  pub sound-call : {r n u f t : ℕ} → (called x) .outcome ≡ proved r n u f t →
+      Derives (assumptions (givenBook x) 0 (x .assumed))
+      (term (map shape (take f ((called x) .words))) (nodesIn ((called x) .terms) t) r) (form (givenBook x) (x .goal))
+  sound-call e = Outcomes.proved-derives x (Called.proves x e)
+
+  -- "Unprovable has a model": a finite Kripke model is lawful, and its first world forces every assumption and not the goal
+  pub countermodel-call : {n u f t : ℕ} → (called x) .outcome ≡ unprovable n u f t → (K : Tree) × Lawful (frame (modelOf K)) ×
+      ForcesEach (modelOf K) (firstWorld K) (map (form (givenBook x)) (x .assumed)) ×
+      ¬ forces (frame (modelOf K)) (form (givenBook x) (x .goal)) (firstWorld K)
+  countermodel-call e =
+      let h = Called.fails x e in
+      let m = Outcomes.failed-model x h in
+      (h .tree, m .0, m .1, m .2)
+
+  -- "Unprovable only if no term exists", of any size
+  pub unprovable-call : {n u f t : ℕ} → (called x) .outcome ≡ unprovable n u f t →
+      (s : Term) → Derives (assumptions (givenBook x) 0 (x .assumed)) s (form (givenBook x) (x .goal)) → ⊥
+  unprovable-call e = Outcomes.failed-none x (Called.fails x e)
+
+  -- what Proved returns passes the layout tests 2 and 13
+  pub proved-passes : {r n u f t : ℕ} → (called x) .outcome ≡ proved r n u f t →
+      (badWord (take f ((called x) .words)) ≡ none) × (badTerm (namesIn (x .text)) f ((called x) .terms) t r ≡ none)
+  proved-passes e = let h = Called.proves x e in (Returned.words-pass x h, Returned.nodes-pass x h)
+
+  -- and can be written, or its text has no room
+  pub proved-written : {r n u f t : ℕ} → (called x) .outcome ≡ proved r n u f t → (buffer : List ℕ) →
+      (writerRefusal (draftAfter x r f t buffer) ≡ none) ×
+      (((written (draftAfter x r f t buffer)) .number ≡ 0) ⊎ ((written (draftAfter x r f t buffer)) .number ≡ 12))
+  proved-written {r} {n} {u} {f} {t} e buffer =
+      let p = Writes.draft-passes x (Called.proves x e) buffer in (p, Writes.writes-or-12 (draftAfter x r f t buffer) p)
+
+  -- the names in a proved term are the assumptions' and generated indices that were used and are not skipped; two of them, or of the
+  -- assumptions', have equal bytes only if their numbers are equal
+  pub proved-names : {r n u f t : ℕ} → (called x) .outcome ≡ proved r n u f t →
+      AllNamesHave (GoodName (skipped (namesIn (x .text))) (length (x .assumed)) u) (nodesIn ((called x) .terms) t)
+  proved-names e = Outcomes.named-within x (Called.proves x e)
+
+  pub names-apart : {r n u f t : ℕ} → (called x) .outcome ≡ proved r n u f t → (y z : ℕ) →
+      GoodName (skipped (namesIn (x .text))) (length (x .assumed)) u y → GoodName (skipped (namesIn (x .text))) (length (x .assumed)) u z →
+      bytesOf (namesIn (x .text)) y ≡ bytesOf (namesIn (x .text)) z → y ≡ z
+  names-apart e = Outcomes.named-apart x (Called.proves x e)
+
+-- "more room changes nothing": a Proved or Unprovable outcome stays as it is when slices or the step limit grow, words and nodes included
+pub roomier-call : {x y : Claim} → Grown x y → Decided ((called x) .outcome) → (called y) .outcome ≡ (called x) .outcome
+roomier-call = MoreRoom.grown-call
+
+pub roomier-fronts : {x y : Claim} → Grown x y → {r n u f t : ℕ} → (called x) .outcome ≡ proved r n u f t →
+    (take f ((called y) .words) ≡ take f ((called x) .words)) ×
+    (take (t * nodeWidth) ((called y) .terms) ≡ take (t * nodeWidth) ((called x) .terms))
+roomier-fronts = MoreRoom.fronts-grown
+
+-- "12: text longer than the lent buffer, or over 1,024 nodes on a path from the root", and only then
+module _ (x : Draft) (e : writerRefusal x ≡ none) where
+  pub writes : termDepth (drafted x) ≤ 1024 → length (termText (namesIn (x .text)) (drafted x)) ≤ length (x .buffer) →
+      written x ≡ record {
+        number = 0;
+        place = 0;
+        part = termText (namesIn (x .text)) (drafted x);
+        buffer = padded (length (x .buffer)) (termText (namesIn (x .text)) (drafted x));
+      }
+  writes = Writes.writes x e
+
+  pub too-deep : 1024 < termDepth (drafted x) → written x ≡ emptied 12 (length (x .buffer))
+  too-deep = Writes.too-deep x e
+
+  pub too-long : length (x .buffer) < length (termText (namesIn (x .text)) (drafted x)) → written x ≡ emptied 12 (length (x .buffer))
+  too-long = Writes.too-long x e
+
+-- a writer's buffer keeps its length
+pub written-length : (x : Draft) → length ((written x) .buffer) ≡ length (x .buffer)
+written-length = Writes.buffer-length
+
+pub name-length : (i room : ℕ) → length ((nameAlone i room) .buffer) ≡ room
+name-length = Writes.name-length
+
+module _ (x : Inquiry) where
+  -- the verdicts of the status: Solvable comes with a derivation; Unsolvable says that there is none, and where the goal is open that its
+  -- negation has one; Unknown says that there is none and that the goal is open; a shortage and a refusal are the first search's
+  pub status-says : Says x ((asked x) .status)
+  status-says = StatusCalls.status-says x
+
+  -- the second search is never refused
+  pub second-passes : refusal (firstClaim x) ≡ none → x .count + 2 ≤ length (x .words) → refusal (secondClaim x) ≡ none
+  second-passes = StatusCalls.second-passes x
+
+  pub second-taken : refusal (firstClaim x) ≡ none → (f : Fault) (i : ℕ) → secondOutcome x ≢ refused f i
+  second-taken = StatusCalls.second-taken x
+
+  -- "In the end added words, term nodes and work records are zero"; a refused input changes nothing
+  pub asked-cleaned : refusal (firstClaim x) ≡ none → asked x ≡ cleanedUp x ((asked x) .status)
+  asked-cleaned = StatusCalls.asked-cleaned x
+
+  pub asked-refused : {r : Refused} → refusal (firstClaim x) ≡ some r →
+      asked x ≡ record { status = rejected (r .fault) (r .place); words = x .words; terms = x .terms; cleared = false }
+  asked-refused = StatusCalls.asked-refused x
+
+  pub asked-lengths : (length ((asked x) .words) ≡ length (x .words)) × (length ((asked x) .terms) ≡ length (x .terms))
+  asked-lengths = StatusCalls.asked-lengths x
