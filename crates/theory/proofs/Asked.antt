@@ -47,6 +47,7 @@ try-same s₀ {a} {b} k k′ o o′ e f g = subst (λ (x : Answer). attempt s₀
     go (short l n) f = refl
     go unfinished f = refl
 
+-- a charge does not look at how the search goes on
 charge-same : (L : Limits) (u : ℕ) (vs : Book) (ns : List Node) (q : Sequent) (s : State) (k k′ : State → Answer) →
     k (made s u vs ns) ≡ k′ (made s u vs ns) → charge L u vs ns q s k ≡ charge L u vs ns q s k′
 charge-same L u vs ns q s k k′ h = at-charge L (λ a b. a ≡ b) u vs ns q s k k′ (λ l n. refl) (λ p. h)
@@ -66,6 +67,7 @@ module _ (L : Limits) (taken : List (List ℕ)) (ask ask′ : Ask Answer)
 
   module _ (q : Sequent) (s : State) (U : List Form) (good : Good (s .words)) (un : Reads (s .words) (q .unordered) U) where
     module _ (O : List Form) (os : Reads (s .words) (q .ordered) O) where
+      -- right: each shape of the goal asks the premises of its rule
       right-same : (sh : Shape) → Below (length (s .words)) sh → At (s .words) (q .goal) (treeOf (trees (s .words)) sh) →
           Agree (question byRight U O (treeOf (trees (s .words)) sh)) →
           onRight (limited L) taken ask q s sh ≡ onRight (limited L) taken ask′ q s sh
@@ -95,6 +97,7 @@ module _ (L : Limits) (taken : List (List ℕ)) (ask ask′ : Ask Answer)
           (λ t s₂ e. refl))
 
     module _ (G : Form) (goal : At (s .words) (q .goal) G) (e : Entry) (es : List Entry) (O : List Form) (os : Reads (s .words) es O) where
+      -- left at an implication, by its left side; a made implication is read off the longer book
       impl-same : (a c : ℕ) (sh : Shape) → Below (length (s .words)) sh → c < length (s .words) →
           At (s .words) (e .formula) (imp (treeOf (trees (s .words)) sh) (form (s .words) c)) →
           Agree (question byLeft U (imp (treeOf (trees (s .words)) sh) (form (s .words) c) ∷ O) G) →
@@ -135,6 +138,7 @@ module _ (L : Limits) (taken : List (List ℕ)) (ask ask′ : Ask Answer)
             goal = at-ext x goal;
           }) orImpl)
 
+      -- left, by the popped record's formula
       left-same : (sh : Shape) → Below (length (s .words)) sh → At (s .words) (e .formula) (treeOf (trees (s .words)) sh) →
           Agree (question byLeft U (treeOf (trees (s .words)) sh ∷ O) G) →
           onLeft (limited L) taken ask q s e es sh ≡ onLeft (limited L) taken ask′ q s e es sh
@@ -173,6 +177,7 @@ module _ (L : Limits) (taken : List (List ℕ)) (ask ask′ : Ask Answer)
           (subst (λ (X : Form). At (s .words) (e .formula) (imp X (form (s .words) c))) p g)
           (subst (λ (X : Form). Agree (question byLeft U (imp X (form (s .words) c) ∷ O) G)) p agree)
 
+    -- left takes the last ordered record, or goes to search
     pop-same : (G : Form) → At (s .words) (q .goal) G → {es : List Entry} {O : List Form} → Reads (s .words) es O →
         Reads (s .words) (q .ordered) O → Agree (question byLeft U O G) →
         popLeft (limited L) taken ask q s es ≡ popLeft (limited L) taken ask′ q s es
@@ -188,6 +193,7 @@ module _ (L : Limits) (taken : List (List ℕ)) (ask ask′ : Ask Answer)
     -- search, with no ordered record left
     module _ (G : Form) (goal : At (s .words) (q .goal) G) (os : Reads (s .words) (q .ordered) [])
         (agree : Agree (question bySearch U [] G)) where
+      -- one position of rule 4 asks its two premises, the record itself taken out
       at-same : (e : Entry) {before es : List Entry} {Y Z : List Form} {A : Form} → Reads (s .words) before Y →
           At (s .words) (e .formula) A → Reads (s .words) es Z → U ≡ Y ++ (A ∷ Z) → (next next′ : Seen → State → Answer) →
           ((m : Seen) (u n : ℕ) → next m (restart s u n) ≡ next′ m (restart s u n)) → (m : Seen) (u n : ℕ) (o : Option (ℕ × ℕ × ℕ)) →
@@ -227,6 +233,7 @@ module _ (L : Limits) (taken : List (List ℕ)) (ask ask′ : Ask Answer)
           at-same e b a r p _ _ (λ m′ u′ n′. positions-same (reads-snoc e b a) r (p ∙ sym (append-assoc Y (A ∷ []) As)) m′ u′ n′) m u n
           (nest (s .words) (look (s .words) (e .formula))) refl
 
+      -- rule 3 asks the two halves, and then the positions
       halves-same : (sh : Shape) → Below (length (s .words)) sh → G ≡ treeOf (trees (s .words)) sh →
           halves (limited L) taken ask q s sh ≡ halves (limited L) taken ask′ q s sh
       unfolding halves treeOf form goalUp
@@ -247,6 +254,7 @@ module _ (L : Limits) (taken : List (List ℕ)) (ask ask′ : Ask Answer)
           (record { unordered = reads-ext x un; ordered = reads-ext x os; goal = at-ext x (at-form (s .words) c (b .1)) }) search3₂)
           (λ t s₄ e. refl) (λ l u′ n′. positions-same no-more un refl _ u′ n′))))
 
+      -- rule 2 asks left with what it keeps and what fires; where nothing fires rule 3 follows
       fire-same : (es : List Entry) → (fire (s .words) (q .unordered) (length (s .nodes)) (q .unordered)) .new ≡ es →
           fireOr (limited L) taken ask q s (fire (s .words) (q .unordered) (length (s .nodes)) (q .unordered)) es ≡
           fireOr (limited L) taken ask′ q s (fire (s .words) (q .unordered) (length (s .nodes)) (q .unordered)) es
@@ -293,6 +301,7 @@ module _ (L : Limits) (taken : List (List ℕ)) (ask ask′ : Ask Answer)
           go none = rule2-same
           go (some t) = refl
 
+  -- one judgement, its formulas read off the book
   rule-same : (j : Judgement) (q : Sequent) (s : State) (U O : List Form) (G : Form) → Good (s .words) → Shows (s .words) q U O G →
       (j ≡ bySearch → O ≡ []) → Agree (question j U O G) → rule (limited L) taken ask j q s ≡ rule (limited L) taken ask′ j q s
   unfolding rule
@@ -316,6 +325,7 @@ forms-read : {ws : Book} {es : List Entry} {As : List Form} → Reads ws es As �
 forms-read no-more = refl
 forms-read (and-more a r) = ap₂ (λ (A : Form) (As : List Form). A ∷ As) (a .tree) (forms-read r)
 
+-- so the formulas shown are the question that is asked
 shows-asked : {ws : Book} {q : Sequent} {U O : List Form} {G : Form} (j : Judgement) → Shows ws q U O G → question j U O G ≡ asked ws j q
 unfolding asked
 shows-asked {ws} {q} {U} {O} {G} j h =

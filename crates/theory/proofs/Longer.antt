@@ -19,6 +19,7 @@ Longer ws (short l n) = Unit {0}
 Longer ws unfinished = Unit {0}
 
 module _ (L : Limits) (ws : Book) where
+  -- each operation keeps that: books are only appended to, and a failed try goes back to its own
   longer-premise : (a : Answer) (k : ℕ → State → Answer) → Longer ws a →
       ((t : ℕ) (s : State) → Ext ws (s .words) → Longer ws (k t s)) → Longer ws (andThen a k)
   unfolding andThen
@@ -57,6 +58,7 @@ module _ (L : Limits) (ws : Book) where
     on-try = λ s₀ a b k k′ o o′ x h f g. longer-try s₀ a k o x h f g;
   }
 
+-- so what a run finds stands in a longer book
 pub run-longer : (L : Limits) (taken : List (List ℕ)) (d : ℕ) (j : Judgement) (q : Sequent) (s : State) (t : ℕ) (s₁ : State) →
     run (limited L) taken d j q s ≡ found t s₁ → Ext (s .words) (s₁ .words)
 unfolding growing

@@ -3,6 +3,7 @@ use mathlib.Core.Bool.{Bool, true, false, _&&_, _||_}
 use mathlib.Core.Logic.{_⊎_, inl, inr}
 use lib.Dec.{T}
 
+-- a conjunction, put together and taken apart
 pub and-T : (a b : Bool) → T a → T b → T (a && b)
 and-T true true x y = tt
 and-T true false x y = y
@@ -16,6 +17,7 @@ pub and-right : (a b : Bool) → T (a && b) → T b
 and-right true b t = t
 and-right false b t = absurd t
 
+-- a disjunction, taken apart and put together
 pub or-cases : (a b : Bool) → T (a || b) → T a ⊎ T b
 or-cases true b t = inl tt
 or-cases false b t = inr t
