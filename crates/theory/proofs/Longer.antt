@@ -9,7 +9,7 @@ use Rattle.theory.specs.Meter.{limited}
 use Rattle.theory.specs.Search.{run}
 use Rattle.theory.proofs.Forms.{ext-refl, ext-by, ext-trans}
 use Rattle.theory.proofs.Charges.{restart, at-charge, at-nodes, at-step}
-use Rattle.theory.proofs.Alike.{Alike, a-run}
+use Rattle.theory.proofs.Alike.{Alike, alike-run}
 
 -- an answer whose book, if one is found, is longer than ws
 abbrev Longer : Book → Answer → Type 0
@@ -63,4 +63,4 @@ pub run-longer : (L : Limits) (taken : List (List ℕ)) (d : ℕ) (j : Judgement
     run (limited L) taken d j q s ≡ found t s₁ → Ext (s .words) (s₁ .words)
 unfolding growing
 run-longer L taken d j q s t s₁ e =
-    subst (Longer (s .words)) e (a-run (limited L) (limited L) (growing L (s .words)) taken d j q s (ext-refl (s .words)) tt)
+    subst (Longer (s .words)) e (alike-run (limited L) (limited L) (growing L (s .words)) taken d j q s (ext-refl (s .words)) tt)

@@ -16,7 +16,7 @@ use Rattle.theory.specs.Meter.{Bound, upTo, free, fits, Limits, Lack, St
 use Rattle.theory.specs.Meter.{Judgement, Ask, count, andThen, attempt, charge, spend, enter, fail, limited, Within, Room}
 use Rattle.theory.specs.Search.{rule, run, given, prove}
 use Rattle.theory.proofs.Charges.{made, noded, entered, restart, at-charge, at-nodes, at-step}
-use Rattle.theory.proofs.Alike.{AllImply, Alike, alike, a-rule, a-run}
+use Rattle.theory.proofs.Alike.{AllImply, Alike, alike, alike-rule, alike-run}
 
 -- where a number fits a limit, a smaller one does
 pub fits-down : (b : Bound) {k n : ℕ} → k ≤ n → T (fits b n) → T (fits b k)
@@ -174,9 +174,9 @@ pub asks-within : (L : Limits) (taken : List (List ℕ)) (d : ℕ) (ask : Ask An
     rule (limited L) taken ask j q s ≡ rule (limited L) taken (run (limited L) taken d) j q s
 unfolding keeping
 asks-within L taken d ask agree j q s h i =
-    (a-rule (limited L) (limited L) keeps taken ask (run (limited L) taken d)
+    (alike-rule (limited L) (limited L) keeps taken ask (run (limited L) taken d)
     (λ j′ q′ s′ h′ i′. subst (λ (a : Answer). Same L (s .words) a (run (limited L) taken d j′ q′ s′)) (sym (agree j′ q′ s′ (h′ .within) i′))
-    (a-run (limited L) (limited L) keeps taken d j′ q′ s′ h′ i′))
+    (alike-run (limited L) (limited L) keeps taken d j′ q′ s′ h′ i′))
     q s (record { within = h; more = []; is = sym (append-nil (s .words)); imply = tt }) i j) .same
   where
     keeps : Alike (limited L) (limited L)
