@@ -1,12 +1,13 @@
 // Generated names and the names of assumptions: `identifier_generator.rs` of the Rust, over lent bytes.
-ghost use mathlib.Core.Path.{_≡_};
 ghost use Prim.Native.Nat.{_/_, _%_, _^_, _≤_};
-ghost use lib.ListN.{length, getD};
-ghost use Rattle.theory.specs.Names.{spell, same, among, skipped, fresh};
+ghost use mathlib.Core.Path.{_≡_};
 ghost use mathlib.Core.List.{[]};
-ghost use Rattle.theory.specs.NameText.{namesIn, between, nameByte, wellSpelled, lawfulAfter, badName, lookup};
+ghost use lib.ListN.{length, getD, replicate};
+ghost use Rattle.theory.specs.Names.{spell, same, among, skipped, fresh};
+ghost use Rattle.theory.specs.NameText.{namesIn, between, nameByte, wellSpelled, lawfulAfter, badName, lookup, padded, nameAlone};
 ghost use Rattle.identifier_generator.specs.Entry.{entrySize};
 ghost use Rattle.identifier_generator.specs.Places.{placeOf};
+ghost use Rattle.identifier_generator.specs.Handed.{Hands, HandsPart};
 
 // How many letters index `i` has.
 pub fn letter_count(i: usize) -> usize
@@ -251,4 +252,54 @@ pub fn name<'a>(assumed: &'a [u8], generated: &'a [u8], x: usize) -> &'a [u8]
         return entry(assumed, x, assumed);
     }
     entry(generated, x - 64, assumed)
+}
+
+fn clear(buf: &mut [u8])
+    ensures { λ _. ⌜ now (buf .exit) ≡ replicate (length (now (buf .entry))) 0 ⌝ }
+{
+    let mut j = 0;
+    while j < buf.len() {
+        buf[j] = 0;
+        j += 1;
+    }
+}
+
+// The letters of index `i`, then zeros. For a buffer that has room for them.
+fn spell_into(i: usize, buf: &mut [u8])
+    requires { ⌜ length (spell i) ≤ length (now buf) ⌝ }
+    ensures { λ _. ⌜ now (buf .exit) ≡ padded (length (now (buf .entry))) (spell i) ⌝ }
+{
+    let mut j = 0;
+    while j < buf.len() {
+        buf[j] = letter(i, j);
+        j += 1;
+    }
+}
+
+// Writes the name of index `i` asked for alone, and returns how many bytes it has. Sets `number` to 0, or to 7 or 12 where the buffer is left zero.
+pub fn write_alone(i: usize, buf: &mut [u8], number: &mut usize) -> usize
+    ensures { λ r. ⌜ Hands (nameAlone i (length (now (buf .entry)))) r (now (number .exit)) (now (buf .exit)) ⌝ }
+{
+    if 4095 < i {
+        clear(buf);
+        *number = 7;
+        return 0;
+    }
+    let count = letter_count(i);
+    if buf.len() < count {
+        clear(buf);
+        *number = 12;
+        return 0;
+    }
+    spell_into(i, buf);
+    *number = 0;
+    count
+}
+
+// The name of index `i` asked for alone, as the front part of the buffer that `write_alone` fills.
+pub fn name_alone<'a>(i: usize, buf: &'a mut [u8], number: &mut usize) -> &'a mut [u8]
+    ensures { λ r. ⌜ HandsPart (nameAlone i (length (now (buf .entry)))) (now r) (now (number .exit)) ⌝ }
+{
+    let n = write_alone(i, buf, number);
+    &mut buf[..n]
 }
