@@ -137,7 +137,8 @@ module _ (ws : Book) where
   unfolding fire fireAt
   fire-kept us n e es h = ap (λ (o : Option (ℕ × ℕ)). fireAt e n (λ m. fire ws us m es) o) h
 
-  pub fire-fired : (us : List Entry) (n : ℕ) (e : Entry) (es : List Entry) (t b : ℕ) → fireShape ws us (look ws (e .formula)) ≡ some (t, b) →
+  pub fire-fired : (us : List Entry) (n : ℕ) (e : Entry) (es : List Entry) (t b : ℕ) →
+      fireShape ws us (look ws (e .formula)) ≡ some (t, b) →
       fire ws us n (e ∷ es) ≡ record {
         kept = fire ws us (suc n) es .kept;
         nodes = node search2 (app (e .proof) t) ∷ fire ws us (suc n) es .nodes;

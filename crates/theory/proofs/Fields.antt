@@ -1,4 +1,4 @@
--- Fields of a word by shifts and masks, over a field's place and width: `>>` and `&` take one out, `<<` and `|` put one in. Assumes nothing.
+-- Fields of a word by shifts and masks, over place and width: `>>` and `&` take one out, `<<` and `|` put one in. Assumes nothing.
 use Prim.Native.Nat.{ℕ, _+_, _-_, _*_, _/_, _%_, _^_, _≤_, _<_}
 use mathlib.Core.Path.{_≡_, ap, _∙_}
 use native.Mathlib.Nat.{add-comm, mul-comm, mod-lt}

@@ -34,7 +34,8 @@ fieldsOf (suc (suc (suc (suc (suc (suc (suc (suc zero)))))))) = some (child ∷ 
 fieldsOf (suc (suc (suc (suc (suc (suc (suc (suc (suc zero))))))))) = some (child ∷ name ∷ child ∷ name ∷ child ∷ [])
 fieldsOf (suc (suc (suc (suc (suc (suc (suc (suc (suc (suc zero)))))))))) = some (child ∷ unused ∷ unused ∷ unused ∷ unused ∷ [])
 fieldsOf (suc (suc (suc (suc (suc (suc (suc (suc (suc (suc (suc zero))))))))))) = some (child ∷ formula ∷ unused ∷ unused ∷ unused ∷ [])
-fieldsOf (suc (suc (suc (suc (suc (suc (suc (suc (suc (suc (suc (suc zero)))))))))))) = some (unused ∷ unused ∷ unused ∷ unused ∷ unused ∷ [])
+fieldsOf (suc (suc (suc (suc (suc (suc (suc (suc (suc (suc (suc (suc zero)))))))))))) =
+    some (unused ∷ unused ∷ unused ∷ unused ∷ unused ∷ [])
 fieldsOf (suc (suc (suc (suc (suc (suc (suc (suc (suc (suc (suc (suc (suc k))))))))))))) = none
 
 -- "Name i below 64 must be an assumption's number; 64+g is generated index g, at most 4,095 and never spelled like an assumption"
