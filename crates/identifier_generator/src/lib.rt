@@ -61,7 +61,7 @@ pub fn spells(i: usize, name: &[u8]) -> bool
 }
 
 // How many bytes the first entry of `text` takes with its length byte; 0 where it is cut or missing.
-fn entry_size(text: &[u8]) -> usize
+pub fn entry_size(text: &[u8]) -> usize
     ensures { λ r. ⌜ r ≡ entrySize (now (text .entry)) ⌝ }
 {
     if text.len() == 0 {

@@ -1,3 +1,7 @@
+pub mod Sums
 pub mod KindLaws
 pub mod PutLaws
 pub mod NodeLaws
+pub mod NameCount
+pub mod FieldLaws
+pub mod TermLaws

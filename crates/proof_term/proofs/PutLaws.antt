@@ -3,6 +3,7 @@ use Prim.Native.Nat.{ℕ, zero, suc, _+_, _-_, _*_, _/_, _≤_, _<_}
 use mathlib.Core.Path.{_≡_, refl, sym, ap, ap₂, _∙_}
 use mathlib.Core.Bool.{Bool, true, false}
 use mathlib.Core.List.{List, [], _∷_, _++_, map}
+use native.Mathlib.Numerals.{add-one}
 use native.Mathlib.Nat.{add-suc, add-zero, suc-add}
 use native.Mathlib.Omega.{arith}
 use lib.Dec.{ltb}
@@ -12,6 +13,7 @@ use lib.Seq.{getD-take, getD-drop, take-at, length-take-le}
 use borrow.Author.Tests.{lt-ltb, le-ltb}
 use Rattle.theory.specs.Layout.{nodeWidth}
 use Rattle.proof_term.specs.Put.{low, putNode}
+use Rattle.proof_term.proofs.Sums.{add-two, add-three, add-four, add-five}
 
 -- with room for the node its numbers are stored, without it nothing is
 pub put-room : (t : List ℕ) (n : ℕ) (xs : List ℕ) → n < length t / nodeWidth → putNode t n xs ≡ sets t (n * nodeWidth) (map low xs)
@@ -28,12 +30,8 @@ pub put-stores : (t : List ℕ) {t₁ t₂ t₃ t₄ t₅ t₆ : List ℕ} (n k 
     t₄ ≡ set t₃ (n * nodeWidth + 3) (low c) → t₅ ≡ set t₄ (n * nodeWidth + 4) (low d) → t₆ ≡ set t₅ (n * nodeWidth + 5) (low e) →
     t₆ ≡ putNode t n (k ∷ a ∷ b ∷ c ∷ d ∷ e ∷ [])
 put-stores t {t₁} {t₂} {t₃} {t₄} {t₅} {t₆} n k a b c d e h h₁ h₂ h₃ h₄ h₅ h₆ =
-    let one : n * 6 + 1 ≡ suc (n * 6) = omega arith in
-    let two : n * 6 + 2 ≡ suc (suc (n * 6)) = omega arith in
-    let three : n * 6 + 3 ≡ suc (suc (suc (n * 6))) = omega arith in
-    let four : n * 6 + 4 ≡ suc (suc (suc (suc (n * 6)))) = omega arith in
-    let five : n * 6 + 5 ≡ suc (suc (suc (suc (suc (n * 6))))) = omega arith in
-    cc (put-room t n (k ∷ a ∷ b ∷ c ∷ d ∷ e ∷ []) h)
+    let m : ℕ = n * nodeWidth in
+    cc (put-room t n (k ∷ a ∷ b ∷ c ∷ d ∷ e ∷ []) h, add-one m, add-two m, add-three m, add-four m, add-five m)
 
 -- what holds of a list and of the list after a run of stores holds after a node is written, room or not
 either : (P : List ℕ → Type 0) (t : List ℕ) (n : ℕ) (xs : List ℕ) → P t → P (sets t (n * nodeWidth) (map low xs)) → P (putNode t n xs)

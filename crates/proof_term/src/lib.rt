@@ -1,9 +1,12 @@
 // Term nodes in numbers: the kinds in the order of `ProofTerm`, the one writer of a node, and the layout test of nodes.
 ghost use mathlib.Core.Path.{_≡_};
 ghost use mathlib.Core.List.{[], _∷_};
-ghost use lib.ListN.{getD, set};
-ghost use Rattle.theory.specs.Layout.{fieldsOf};
-ghost use Rattle.proof_term.specs.Kinds.{fieldsAs};
+ghost use Prim.Native.Nat.{_*_, _≤_, _<_};
+ghost use lib.ListN.{length, getD, set};
+ghost use Rattle.theory.specs.NameText.{namesIn};
+ghost use Rattle.theory.specs.Layout.{nodeWidth, fieldsOf, lawfulName, lawfulField, lawfulNode, badTerm};
+ghost use Rattle.proof_term.specs.Kinds.{fieldAs, fieldsAs};
+ghost use Rattle.proof_term.specs.Places.{placeOf};
 ghost use Rattle.proof_term.specs.Put.{low, putNode};
 use Field::Child;
 use Field::Formula;
@@ -12,6 +15,12 @@ use Field::Unused;
 
 // A node is so many numbers: its kind, then its fields.
 pub const WIDTH: usize = 6;
+
+// Names below this are the assumptions' numbers; a generated index is added to it.
+const ASSUMED: usize = 64;
+
+// The highest generated index.
+const LAST_INDEX: usize = 4095;
 
 // What a field of a node holds.
 pub enum Field {
@@ -25,6 +34,12 @@ pub enum Field {
 pub enum Fields {
     Held(Field, Field, Field, Field, Field),
     Refused,
+}
+
+// Where the layout of a term is broken.
+pub enum Place {
+    Nowhere,
+    At(usize),
 }
 
 // The one decision over kind numbers, in the order of `ProofTerm`: LetIn (6), Sorry (13) and what lies above are refused.
@@ -77,4 +92,96 @@ pub fn put(t: &mut [u16], n: usize, kind: usize, a: usize, b: usize, c: usize, d
         store(t, at + 4, d);
         store(t, at + 5, e);
     }
+}
+
+// How many names a text holds.
+fn count_names(text: &[u8]) -> usize
+    ensures { λ r. ⌜ r ≡ length (namesIn (now (text .entry))) ⌝ }
+{
+    let mut rest = text;
+    let mut n = 0;
+    loop {
+        let size = identifier_generator::entry_size(rest);
+        if size == 0 {
+            return n;
+        }
+        rest = &rest[size..];
+        n += 1;
+    }
+}
+
+// Whether x is a name's number: that of one of the text's `names` names, or of a generated one that none of them is spelled like.
+fn lawful_name(x: usize, names: usize, text: &[u8]) -> bool
+    requires { ⌜ names ≡ length (namesIn (now text)) ⌝ }
+    ensures { λ r. ⌜ r ≡ lawfulName (namesIn (now (text .entry))) x ⌝ }
+{
+    if x < ASSUMED {
+        return x < names;
+    }
+    let g = x - ASSUMED;
+    if LAST_INDEX < g {
+        return false;
+    }
+    !identifier_generator::spelled_like(text, g)
+}
+
+// Whether number `at` may stand in such a field of node i, over `count` formulas.
+fn lawful_field(
+    field: Field,
+    t: &[u16],
+    at: usize,
+    i: usize,
+    count: usize,
+    names: usize,
+    text: &[u8],
+) -> bool
+    requires { ⌜ names ≡ length (namesIn (now text)) ⌝ }
+    ensures { λ r. ⌜ r ≡ lawfulField (namesIn (now (text .entry))) count i (fieldAs field) (getD (now (t .entry)) at 0) ⌝ }
+{
+    let x = number(t, at);
+    match field {
+        Name => lawful_name(x, names, text),
+        Child => x < i,
+        Formula => x < count,
+        Unused => x == 0,
+    }
+}
+
+// Whether node i keeps the layout.
+fn lawful_node(t: &[u16], i: usize, count: usize, names: usize, text: &[u8]) -> bool
+    requires { ⌜ names ≡ length (namesIn (now text)) ⌝ }
+    requires { ⌜ i * nodeWidth < length (now t) ⌝ }
+    ensures { λ r. ⌜ r ≡ lawfulNode (namesIn (now (text .entry))) count (now (t .entry)) i ⌝ }
+{
+    let at = i * WIDTH;
+    let Fields::Held(a, b, c, d, e) = fields_of(number(t, at)) else {
+        return false;
+    };
+    let first = lawful_field(a, t, at + 1, i, count, names, text);
+    let second = lawful_field(b, t, at + 2, i, count, names, text);
+    let third = lawful_field(c, t, at + 3, i, count, names, text);
+    let fourth = lawful_field(d, t, at + 4, i, count, names, text);
+    let fifth = lawful_field(e, t, at + 5, i, count, names, text);
+    first & second & third & fourth & fifth
+}
+
+// The lowest of the given nodes that breaks the layout, or the node count for a root not below it. Names are judged by the assumptions'
+// text. For callers that have tested the sizes, as refusal 1 comes before.
+pub fn bad_term(t: &[u16], nodes: usize, root: usize, count: usize, text: &[u8]) -> Place
+    requires { ⌜ nodes * nodeWidth ≤ length (now t) ⌝ }
+    ensures { λ r. ⌜ placeOf r ≡ badTerm (namesIn (now (text .entry))) count (now (t .entry)) nodes root ⌝ }
+{
+    let names = count_names(text);
+    let mut i = 0;
+    while i < nodes {
+        if lawful_node(t, i, count, names, text) {
+            i += 1;
+        } else {
+            return Place::At(i);
+        }
+    }
+    if root < nodes {
+        return Place::Nowhere;
+    }
+    Place::At(nodes)
 }

@@ -6,8 +6,8 @@ use mathlib.Core.Option.{Option, none, some}
 use mathlib.Core.List.{List, [], _∷_, _++_}
 use native.Mathlib.Nat.{zero-add, add-suc, suc-add}
 use native.Mathlib.Omega.{arith}
-use lib.Dec.{T, leb, ltb, eqb→eq}
-use borrow.Author.Tests.{lt-ltb, le-ltb}
+use lib.Dec.{T, ltb, eqb→eq}
+use borrow.Author.Tests.{lt-ltb, le-ltb, le-leb, lt-leb}
 use lib.ListN.{length, getD, take, drop}
 use lib.Seq.{take-add, drop-drop}
 use Rattle.theory.specs.Term.{sixOf, six}
@@ -185,15 +185,19 @@ pub passing-numbers : (names : List (List ℕ)) (count : ℕ) (t : List ℕ) (n 
 unfolding nodesIn
 passing-numbers names count t n e h = passing-from names count t 0 n e (rw zero-add h)
 
--- the two kinds of name
+-- the names: an assumption's number, an index past the last, and an index that may be skipped
 pub low-name : (names : List (List ℕ)) (x : ℕ) → x < 64 → lawfulName names x ≡ ltb x (length names)
 unfolding lawfulName
 low-name names x h = rw (lt-ltb x 64 h, lawfulName)
 
-pub high-name : (names : List (List ℕ)) (x : ℕ) → 64 ≤ x →
-    lawfulName names x ≡ (leb (x - 64) lastIndex && not (among (spell (x - 64)) (skipped names)))
+pub far-name : (names : List (List ℕ)) (x : ℕ) → 64 ≤ x → lastIndex < x - 64 → lawfulName names x ≡ false
 unfolding lawfulName
-high-name names x h = rw (le-ltb x 64 h, lawfulName)
+far-name names x h l = rw (le-ltb x 64 h, lawfulName) (rw (lt-leb (x - 64) lastIndex l))
+
+pub high-name : (names : List (List ℕ)) (x : ℕ) → 64 ≤ x → x - 64 ≤ lastIndex →
+    lawfulName names x ≡ not (among (spell (x - 64)) (skipped names))
+unfolding lawfulName
+high-name names x h l = rw (le-ltb x 64 h, lawfulName) (rw (le-leb (x - 64) lastIndex l))
 
 -- the three outcomes of 13: a bad node, a root that is none, and nothing to refuse
 pub node-refused : (names : List (List ℕ)) (count : ℕ) (t : List ℕ) (nodes root i : ℕ) → badNodeFrom names count t 0 nodes ≡ some i →

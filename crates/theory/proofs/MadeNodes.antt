@@ -6,14 +6,13 @@ use mathlib.Core.Option.{none}
 use mathlib.Core.List.{List, [], _∷_, _++_}
 use native.Mathlib.Omega.{arith}
 use lib.Dec.{ltb}
-use borrow.Author.Tests.{lt-ltb, le-leb}
+use borrow.Author.Tests.{lt-ltb}
 use lib.ListN.{length}
 use Rattle.theory.specs.Term.{Piece, ident, pair, fst, snd, fn, app, inl, inr, case, abort, asc, unit, sixOf, six}
 use Rattle.theory.specs.Term.{Node, NodeIn, NodesFrom, NamesHave, AllNamesHave}
 use Rattle.theory.specs.Layout.{nodeWidth, fieldsOf, lawfulName, lawfulField}
 use Rattle.theory.specs.Layout.{lawfulNode, badNodeFrom, badTerm, inNumbers}
 use Rattle.theory.specs.Names.{GoodName, ofAssumption, generated, skipped}
-use Rattle.theory.specs.NameText.{lastIndex}
 use Rattle.theory.proofs.LayoutLaws.{numbersAt, numbers-between, six-length}
 use Rattle.theory.proofs.LayoutLaws.{parts-here, parts-there, past-node}
 use Rattle.theory.proofs.LawfulNodes.{lawfulSix, node-numbers, next-node, low-name, high-name, term-passes}
@@ -70,7 +69,7 @@ good-lawful : (names : List (List ℕ)) (h u x : ℕ) → h ≤ length names →
 good-lawful names h u x a b c (ofAssumption l) = low-name names x (omega arith) ∙ lt-ltb x (length names) (omega arith)
 good-lawful names h u x a b c (generated {g} l free) =
     let e : 64 + g - 64 ≡ g = omega arith in
-    high-name names (64 + g) (omega arith) ∙ rw (e, le-leb g lastIndex (omega arith), free)
+    high-name names (64 + g) (omega arith) (omega arith) ∙ rw (e, free)
 
 -- what a search made passes 13, whatever stands after its nodes
 pub made-nodes-pass : (names : List (List ℕ)) (h u m : ℕ) (ns : List Node) (after : List ℕ) (root : ℕ) →
