@@ -4,19 +4,17 @@ use mathlib.Core.Path.{_≡_, refl, sym, ap, ap₂, _∙_, subst}
 use mathlib.Core.Option.{Option, none, some}
 use mathlib.Core.List.{List, [], _∷_, _++_, append-assoc}
 use lib.ListN.{length}
-use Rattle.theory.specs.Form.{Form, imp, Shape, isTop, isBot, isLeaf, isAnd, isOr, isImp, Book, look, treeOf}
-use Rattle.theory.specs.Form.{trees, form, Below, Good, Ext}
+use Rattle.theory.specs.Form.{Form, imp, Shape, isTop, isBot, isLeaf, isAnd, isOr, isImp, Book, look, treeOf, trees, form, Below}
+use Rattle.theory.specs.Form.{Good, Ext}
 use Rattle.theory.specs.Term.{Node}
 use Rattle.theory.specs.World.{Tree, Seen}
 use Rattle.theory.specs.Meter.{Limits, Entry, Sequent, State, Answer, found, failed, short, unfinished, Judgement, byRight, byLeft}
 use Rattle.theory.specs.Meter.{bySearch, Ask, andThen, attempt, charge, limited}
 use Rattle.theory.specs.Search.{goalUp, pushUp, goOn, entry, firstLeaf, Fired, fire, nest, onRight, onImpl, onLeft, popLeft, tryAt}
-use Rattle.theory.specs.Search.{positions}
-use Rattle.theory.specs.Search.{halves, fireOr, rule2, onSearch, rule, run}
+use Rattle.theory.specs.Search.{positions, halves, fireOr, rule2, onSearch, rule, run}
 use Rattle.theory.specs.Premise.{Question, question, formsOf, asked, EachIn, Askable, Fires, Premise, rightAnd₁, rightAnd₂, rightImpl}
-use Rattle.theory.specs.Premise.{rightElse}
-use Rattle.theory.specs.Premise.{leftTrue, leftLeaf, leftAnd, leftOr₁, leftOr₂, trueImpl, falseImpl, leafImpl, implImpl, andImpl}
-use Rattle.theory.specs.Premise.{orImpl, leftEmpty, search2, search3₁, search3₂, search4₁, search4₂}
+use Rattle.theory.specs.Premise.{rightElse, leftTrue, leftLeaf, leftAnd, leftOr₁, leftOr₂, trueImpl, falseImpl, leafImpl, implImpl}
+use Rattle.theory.specs.Premise.{andImpl, orImpl, leftEmpty, search2, search3₁, search3₂, search4₁, search4₂}
 use Rattle.theory.proofs.Forms.{ext-by, ext-trans, At, at-ext, at-form, imp-new, imp-two, form-at, good-at}
 use Rattle.theory.proofs.Context.{Reads, no-more, and-more, reads-ext, reads-snoc, reads-append}
 use Rattle.theory.proofs.Fire.{FiredAs, fire-as, nests-at}
