@@ -64,6 +64,11 @@ module _ (L : Limits) (taken : List (List ℕ)) (ask ask′ : Ask Answer)
       Premise x (question j U O G) → ask j q s ≡ ask′ j q s
 
   module _ (q : Sequent) (s : State) (U : List Form) (good : Good (s .words)) (un : Reads (s .words) (q .unordered) U) where
+    -- a premise that keeps the unordered records, in a longer book
+    shows : {ws : Book} → Ext (s .words) ws → {es : List Entry} {O : List Form} {g l : ℕ} {G : Form} → Reads ws es O → At ws g G →
+        Shows ws (record { unordered = q .unordered; ordered = es; goal = g; level = l }) U O G
+    shows x r a = record { unordered = reads-ext x un; ordered = r; goal = a }
+
     module _ (O : List Form) (os : Reads (s .words) (q .ordered) O) where
       -- right: each shape of the goal asks the premises of its rule
       right-same : (sh : Shape) → Below (length (s .words)) sh → At (s .words) (q .goal) (treeOf (trees (s .words)) sh) →
@@ -78,20 +83,17 @@ module _ (L : Limits) (taken : List (List ℕ)) (ask ask′ : Ask Answer)
           let x : Ext (s .words) (s .words ++ []) = ext-by (s .words) [] in
           charge-same L _ _ _ _ _ _ _ (then-same _ _
           (agree byRight _ _ _ _ _
-          (record { unordered = reads-ext x un; ordered = reads-ext x os; goal = at-ext x (at-form (s .words) a (b .0)) }) rightAnd₁)
+          (shows x (reads-ext x os) (at-ext x (at-form (s .words) a (b .0)))) rightAnd₁)
           (λ t s₂ e. let x₂ : Ext (s .words) (s₂ .words ++ []) = ext-trans (ext-trans x (keeps _ _ _ t s₂ e)) (ext-by (s₂ .words) []) in
           charge-same L _ _ _ _ _ _ _ (then-same _ _
           (agree byRight _ _ _ _ _
-          (record { unordered = reads-ext x₂ un; ordered = reads-ext x₂ os; goal = at-ext x₂ (at-form (s .words) c (b .1)) }) rightAnd₂)
+          (shows x₂ (reads-ext x₂ os) (at-ext x₂ (at-form (s .words) c (b .1)))) rightAnd₂)
           (λ u s₄ e₄. refl))))
       right-same (isImp a c) b g agree =
           let x : Ext (s .words) (s .words ++ []) = ext-by (s .words) [] in
           charge-same L _ _ _ _ _ _ _ (then-same _ _
-          (agree byRight _ _ _ _ _ (record {
-            unordered = reads-ext x un;
-            ordered = and-more (at-ext x (at-form (s .words) a (b .0))) (reads-ext x os);
-            goal = at-ext x (at-form (s .words) c (b .1));
-          }) rightImpl)
+          (agree byRight _ _ _ _ _
+          (shows x (and-more (at-ext x (at-form (s .words) a (b .0))) (reads-ext x os)) (at-ext x (at-form (s .words) c (b .1)))) rightImpl)
           (λ t s₂ e. refl))
 
     module _ (G : Form) (goal : At (s .words) (q .goal) G) (e : Entry) (es : List Entry) (O : List Form) (os : Reads (s .words) es O) where
@@ -103,11 +105,8 @@ module _ (L : Limits) (taken : List (List ℕ)) (ask ask′ : Ask Answer)
       unfolding onImpl treeOf form goOn entry
       impl-same a c isTop b i g agree =
           let x : Ext (s .words) (s .words ++ []) = ext-by (s .words) [] in
-          charge-same L _ _ _ _ _ _ _ (agree byLeft _ _ _ _ _ (record {
-            unordered = reads-ext x un;
-            ordered = and-more (at-ext x (at-form (s .words) c i)) (reads-ext x os);
-            goal = at-ext x goal;
-          }) trueImpl)
+          charge-same L _ _ _ _ _ _ _ (agree byLeft _ _ _ _ _
+          (shows x (and-more (at-ext x (at-form (s .words) c i)) (reads-ext x os)) (at-ext x goal)) trueImpl)
       impl-same a c isBot b i g agree = agree byLeft _ _ _ _ _ (record { unordered = un; ordered = os; goal = goal }) falseImpl
       impl-same a c (isLeaf k y) b i g agree =
           agree byLeft _ _ _ _ _ (record { unordered = reads-snoc e un g; ordered = os; goal = goal }) leafImpl
@@ -119,22 +118,16 @@ module _ (L : Limits) (taken : List (List ℕ)) (ask ask′ : Ask Answer)
           let one = imp-new ws r c good (at-form ws r (b .1)) (at-form ws c i) in
           let two = imp-two ws r c l (length ws) good (at-form ws r (b .1)) (at-form ws c i)
           (at-ext (ext-by ws (isImp r c ∷ [])) (at-form ws l (b .0))) (one .1) in
-          charge-same L _ _ _ _ _ _ _ (agree byLeft _ _ _ _ _ (record {
-            unordered = reads-ext x un;
-            ordered = and-more (two .2) (reads-ext x os);
-            goal = at-ext x goal;
-          }) andImpl)
+          charge-same L _ _ _ _ _ _ _ (agree byLeft _ _ _ _ _
+          (shows x (and-more (two .2) (reads-ext x os)) (at-ext x goal)) andImpl)
       impl-same a c (isOr l r) b i g agree =
           let ws : Book = s .words in
           let x : Ext ws (ws ++ (isImp l c ∷ isImp r c ∷ [])) = ext-by ws (isImp l c ∷ isImp r c ∷ []) in
           let x₁ : Ext ws (ws ++ (isImp l c ∷ [])) = ext-by ws (isImp l c ∷ []) in
           let two = imp-two ws l c r c good (at-form ws l (b .0)) (at-form ws c i) (at-ext x₁ (at-form ws r (b .1)))
           (at-ext x₁ (at-form ws c i)) in
-          charge-same L _ _ _ _ _ _ _ (agree byLeft _ _ _ _ _ (record {
-            unordered = reads-ext x un;
-            ordered = and-more (two .2) (and-more (two .1) (reads-ext x os));
-            goal = at-ext x goal;
-          }) orImpl)
+          charge-same L _ _ _ _ _ _ _ (agree byLeft _ _ _ _ _
+          (shows x (and-more (two .2) (and-more (two .1) (reads-ext x os))) (at-ext x goal)) orImpl)
 
       -- left, by the popped record's formula
       left-same : (sh : Shape) → Below (length (s .words)) sh → At (s .words) (e .formula) (treeOf (trees (s .words)) sh) →
@@ -147,27 +140,17 @@ module _ (L : Limits) (taken : List (List ℕ)) (ask ask′ : Ask Answer)
           agree byLeft _ _ _ _ _ (record { unordered = reads-snoc e un g; ordered = os; goal = goal }) leftLeaf
       left-same (isAnd a c) b g agree =
           let x : Ext (s .words) (s .words ++ []) = ext-by (s .words) [] in
-          charge-same L _ _ _ _ _ _ _ (agree byLeft _ _ _ _ _ (record {
-            unordered = reads-ext x un;
-            ordered = and-more (at-ext x (at-form (s .words) c (b .1)))
-                (and-more (at-ext x (at-form (s .words) a (b .0))) (reads-ext x os));
-            goal = at-ext x goal;
-          }) leftAnd)
+          charge-same L _ _ _ _ _ _ _ (agree byLeft _ _ _ _ _ (shows x (and-more (at-ext x (at-form (s .words) c (b .1)))
+          (and-more (at-ext x (at-form (s .words) a (b .0))) (reads-ext x os))) (at-ext x goal)) leftAnd)
       left-same (isOr a c) b g agree =
           let x : Ext (s .words) (s .words ++ []) = ext-by (s .words) [] in
           charge-same L _ _ _ _ _ _ _ (then-same _ _
-          (agree byLeft _ _ _ _ _ (record {
-            unordered = reads-ext x un;
-            ordered = and-more (at-ext x (at-form (s .words) a (b .0))) (reads-ext x os);
-            goal = at-ext x goal;
-          }) leftOr₁)
+          (agree byLeft _ _ _ _ _
+          (shows x (and-more (at-ext x (at-form (s .words) a (b .0))) (reads-ext x os)) (at-ext x goal)) leftOr₁)
           (λ t s₂ p. let x₂ : Ext (s .words) (s₂ .words ++ []) = ext-trans (ext-trans x (keeps _ _ _ t s₂ p)) (ext-by (s₂ .words) []) in
           charge-same L _ _ _ _ _ _ _ (then-same _ _
-          (agree byLeft _ _ _ _ _ (record {
-            unordered = reads-ext x₂ un;
-            ordered = and-more (at-ext x₂ (at-form (s .words) c (b .1))) (reads-ext x₂ os);
-            goal = at-ext x₂ goal;
-          }) leftOr₂)
+          (agree byLeft _ _ _ _ _
+          (shows x₂ (and-more (at-ext x₂ (at-form (s .words) c (b .1))) (reads-ext x₂ os)) (at-ext x₂ goal)) leftOr₂)
           (λ u s₄ p₄. refl))))
       left-same (isImp a c) b g agree =
           let p : form (s .words) a ≡ treeOf (trees (s .words)) (look (s .words) a) = form-at (s .words) good a (b .0) in
@@ -245,11 +228,11 @@ module _ (L : Limits) (taken : List (List ℕ)) (ask ask′ : Ask Answer)
           let agree′ = subst (λ (X : Form). Agree (question bySearch U [] X)) p agree in
           charge-same L _ _ _ _ _ _ _ (try-same s _ _ _ _
           (agree′ byRight _ _ _ _ _
-          (record { unordered = reads-ext x un; ordered = reads-ext x os; goal = at-ext x (at-form (s .words) a (b .0)) }) search3₁)
+          (shows x (reads-ext x os) (at-ext x (at-form (s .words) a (b .0)))) search3₁)
           (λ t s₂ e. refl)
           (λ k u n. charge-same L _ _ _ _ _ _ _ (try-same s _ _ _ _
           (agree′ byRight _ _ _ _ _
-          (record { unordered = reads-ext x un; ordered = reads-ext x os; goal = at-ext x (at-form (s .words) c (b .1)) }) search3₂)
+          (shows x (reads-ext x os) (at-ext x (at-form (s .words) c (b .1)))) search3₂)
           (λ t s₄ e. refl) (λ l u′ n′. positions-same no-more un refl _ u′ n′))))
 
       -- rule 2 asks left with what it keeps and what fires; where nothing fires rule 3 follows
