@@ -1,5 +1,5 @@
--- What is claimed of the whole call, of the writer's and of the status', each claim in its final form; the proofs stand in the modules
--- cited. Assumes nothing.
+-- What is claimed of the whole call, of the writer, the status and the program, each claim in its final form; the proofs stand in the
+-- modules cited. Assumes nothing.
 use Prim.Native.Nat.{ℕ, _*_, _+_, _≤_, _<_}
 use mathlib.Core.Path.{_≡_, sym, ap, _∙_, subst}
 use mathlib.Core.Bool.{false}
@@ -18,12 +18,13 @@ use Rattle.theory.specs.Meter.{Lack, Steps, short, unfinished}
 use Rattle.theory.specs.Log.{Logged, readOff}
 use Rattle.theory.specs.Written.{assumptions, Logs}
 use Rattle.theory.specs.Text.{termText}
-use Rattle.theory.specs.Refusal.{Fault, Refused}
+use Rattle.theory.specs.Refusal.{Fault, Sizes, Refused}
 use Rattle.theory.specs.Call.{Claim, givenWords, givenBook, refusal, searchLimits, searched, proved, unprovable, shortage, refused}
 use Rattle.theory.specs.Call.{After, recordsAfter, givenBack, unchanged, answered, called}
 use Rattle.theory.specs.Writer.{termDepth, Draft, writerRefusal, drafted, written}
 use Rattle.theory.specs.Status.{rejected, Inquiry, firstClaim, secondClaim, secondOutcome, cleanedUp, asked}
-use Rattle.theory.specs.Owed.{ZeroAbove, Grown, FitIn, Decided, draftAfter, Says, Passes}
+use Rattle.theory.specs.File.{File, decoded, claimOf, draftOf, printed}
+use Rattle.theory.specs.Owed.{Faulty, Bounds, ZeroAbove, Grown, FitIn, Decided, draftAfter, Says, Passes}
 use Rattle.theory.proofs.Written.{one-log-only}
 use Rattle.theory.proofs.Passing.{passes}
 use Rattle.theory.proofs.Called
@@ -33,6 +34,9 @@ use Rattle.theory.proofs.Outcomes
 use Rattle.theory.proofs.MoreRoom
 use Rattle.theory.proofs.Writes
 use Rattle.theory.proofs.StatusCalls
+use Rattle.theory.proofs.Faults
+use Rattle.theory.proofs.FileRead
+use Rattle.theory.proofs.Printed
 
 module _ (x : Claim) where
   -- "each call ends with an answer or a refusal": the step limit bounds the depth, so that the search is never unfinished
@@ -43,6 +47,10 @@ module _ (x : Claim) where
   pub refused-exactly : (f : Fault) (i : ℕ) → ((called x) .outcome ≡ refused f i) ↔ (refusal x ≡ some (record { fault = f; place = i }))
   unfolding unchanged
   refused-exactly f i = (λ e. (Called.is-refused x e) .is, λ e. ap (λ (a : After). a .outcome) (Called.refused-call x e))
+
+  -- the fault says which test refused, those before it having passed, and the place is 0 for 1 and 5
+  pub refused-says : {f : Fault} {i : ℕ} → (called x) .outcome ≡ refused f i → Faulty x f i
+  refused-says {f} {i} e = Faults.refused-says x (record { fault = f; place = i }) ((Called.is-refused x e) .is)
 
   -- "a refused input changes no buffer"
   pub refused-unchanged : {f : Fault} {i : ℕ} → (called x) .outcome ≡ refused f i →
@@ -209,3 +217,20 @@ module _ (x : Inquiry) where
 
   pub asked-lengths : (length ((asked x) .words) ≡ length (x .words)) × (length ((asked x) .terms) ≡ length (x .terms))
   asked-lengths = StatusCalls.asked-lengths x
+
+-- a house file that decodes has at most 4,096 formulas, at most 64 assumptions and one goal
+pub file-bounded : (bs : List ℕ) (x : File) → decoded bs ≡ some x → Bounds x
+file-bounded = FileRead.file-bounded
+
+-- the program answers no 1 to a file that decodes, and 12 alone where a proved term is not written
+pub program-sizes : (bs : List ℕ) (x : File) → decoded bs ≡ some x → (goal i : ℕ) → (called (claimOf x goal)) .outcome ≢ refused Sizes i
+program-sizes = Printed.program-sizes
+
+pub program-writes : (x : File) (goal : ℕ) {r n u f t : ℕ} → (called (claimOf x goal)) .outcome ≡ proved r n u f t →
+    ((written (draftOf x (called (claimOf x goal)) r f t)) .number ≡ 0) ⊎
+    ((written (draftOf x (called (claimOf x goal)) r f t)) .number ≡ 12)
+program-writes = Printed.program-writes
+
+-- whatever it prints has room in 32,835 bytes
+pub printed-length : (bs : List ℕ) → length (printed bs) ≤ 32835
+printed-length = Printed.printed-length

@@ -120,6 +120,34 @@ buffer-length x = start (writerRefusal x) refl
     start none e = ap (λ (w : Written). length (w .buffer)) (passed-draft x e) ∙ text (leb (termDepth (drafted x)) 1024)
     start (some r) e = ap (λ (w : Written). length (w .buffer)) (refused-draft x e)
 
+-- the written part is no longer than the buffer
+fitted-part : (text : List ℕ) (room : ℕ) → length ((fitted text room) .part) ≤ room
+unfolding fitted emptied
+fitted-part text room = go (leb (length text) room) refl
+  where
+    go : (b : Bool) → leb (length text) room ≡ b → length ((elim b as (λ z. Written) [
+      | true ↦ record { number = 0; place = 0; part = text; buffer = padded room text }
+      | false ↦ record { number = 12; place = 0; part = []; buffer = replicate room 0 }
+    ]) .part) ≤ room
+    go true e = leb-true (length text) room e
+    go false e = omega arith
+
+pub part-length : (x : Draft) → length ((written x) .part) ≤ length (x .buffer)
+unfolding textFitted notWritten emptied
+part-length x = start (writerRefusal x) refl
+  where
+    text : (b : Bool) → length ((elim b as (λ z. Written) [
+      | true ↦ fitted (termText (namesIn (x .text)) (drafted x)) (length (x .buffer))
+      | false ↦ emptied 12 (length (x .buffer))
+    ]) .part) ≤ length (x .buffer)
+    text true = fitted-part (termText (namesIn (x .text)) (drafted x)) (length (x .buffer))
+    text false = omega arith
+
+    start : (o : Option Refused) → writerRefusal x ≡ o → length ((written x) .part) ≤ length (x .buffer)
+    start none e = subst (λ (w : Written). length (w .part) ≤ length (x .buffer)) (sym (passed-draft x e))
+        (text (leb (termDepth (drafted x)) 1024))
+    start (some r) e = subst (λ (w : Written). length (w .part) ≤ length (x .buffer)) (sym (refused-draft x e)) (omega arith)
+
 -- what a proved call leaves is refused by none of the writer's tests
 pub draft-passes : (x : Claim) {r n u f t : ℕ} → Proves x r n u f t → (buffer : List ℕ) → writerRefusal (draftAfter x r f t buffer) ≡ none
 unfolding writerRefusal draftAfter formulaSizes nodeSizes

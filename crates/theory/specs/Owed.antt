@@ -1,8 +1,8 @@
 -- What is owed after a call, and claims that differ in room alone: the words of the whole call's theorems. Assumes nothing.
 use Prim.Native.Nat.{ℕ, _*_, _%_, _≤_, _<_}
 use mathlib.Core.Path.{_≡_}
-use mathlib.Core.Bool.{true}
-use mathlib.Core.Option.{none}
+use mathlib.Core.Bool.{true, false}
+use mathlib.Core.Option.{none, some}
 use mathlib.Core.List.{List, []}
 use lib.Dec.{T}
 use lib.ListN.{length, getD}
@@ -12,8 +12,10 @@ use Rattle.theory.specs.NameText.{namesIn, badName}
 use Rattle.theory.specs.Written.{AllIn}
 use Rattle.theory.specs.Term.{Term, Derives}
 use Rattle.theory.specs.Layout.{nodeWidth}
+use Rattle.theory.specs.Refusal.{Fault, Sizes, BadFormula, BadAssumption, BadNames, BadGoal, NoRoom, BadTerm, BadFile, badAssumption}
 use Rattle.theory.specs.Call.{Claim, rightSizes, givenWords, givenBook, Outcome, proved, unprovable, shortage, refused, After, called}
 use Rattle.theory.specs.Writer.{Draft}
+use Rattle.theory.specs.File.{File}
 use Rattle.theory.specs.Status.{Solvable, Unsolvable, Unknown, Status, settled, ranShort, rejected, Inquiry, firstClaim, goalIsOpen}
 
 -- what a claim has that passes 1 to 5
@@ -35,6 +37,21 @@ pub record Passes (x : Claim) : Type 0 where
   pub named : length (namesIn (x .text)) ≡ length (x .assumed)
   pub distinct : Distinct (namesIn (x .text))
   pub goal : x .goal < length (givenBook x)
+
+-- what a refused claim breaks, the tests before it having passed: the fault, and its place (0 for 1 and 5)
+abbrev pub Faulty : Claim → Fault → ℕ → Type 0
+Faulty x Sizes i = (rightSizes x ≡ false) × (i ≡ 0)
+Faulty x BadFormula i = T (rightSizes x) × (badWord (givenWords x) ≡ some i)
+Faulty x BadAssumption i = T (rightSizes x) × (badWord (givenWords x) ≡ none) × (badAssumption (x .count) (x .assumed) ≡ some i)
+Faulty x BadNames i =
+    T (rightSizes x) × (badWord (givenWords x) ≡ none) × (badAssumption (x .count) (x .assumed) ≡ none) ×
+    (badName (length (x .assumed)) (x .text) ≡ some i)
+Faulty x BadGoal i =
+    T (rightSizes x) × (badWord (givenWords x) ≡ none) × (badAssumption (x .count) (x .assumed) ≡ none) ×
+    (badName (length (x .assumed)) (x .text) ≡ none) × (x .count ≤ x .goal) × (i ≡ 0)
+Faulty x NoRoom i = ⊥
+Faulty x BadTerm i = ⊥
+Faulty x BadFile i = ⊥
 
 -- "all formula words and term nodes above the fills are zero, and every work record is zero"
 pub record ZeroAbove (a : After) (f t : ℕ) : Type 0 where
@@ -93,3 +110,9 @@ Says x (settled Unsolvable) =
 Says x (settled Unknown) = ((s : Term) → Derives [] s (asksFor x) → ⊥) × T (goalIsOpen x)
 Says x (ranShort l n) = (called (firstClaim x)) .outcome ≡ shortage l n
 Says x (rejected f i) = (called (firstClaim x)) .outcome ≡ refused f i
+
+-- the counts of a file that decodes
+pub record Bounds (x : File) : Type 0 where
+  pub words : length (x .words) ≤ 4096
+  pub indices : length (x .indices) ≤ 64
+  pub goals : length (x .goals) ≡ 1
