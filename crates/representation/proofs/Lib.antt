@@ -6,4 +6,11 @@ pub mod Stretch
 pub mod Write
 pub mod Combine
 pub mod Charge
+pub mod Areas
 pub mod Making
+pub mod Branch
+pub mod Look
+pub mod Right
+pub mod RightImpl
+pub mod Moving
+pub mod Left

@@ -11,7 +11,7 @@ use Rattle.theory.specs.Term.{Piece, Rule, Node, node, by}
 use Rattle.theory.specs.Layout.{nodeWidth}
 use Rattle.theory.specs.Refusal.{lackNumber}
 use Rattle.theory.specs.Meter as M
-use Rattle.theory.specs.Meter.{limited, charge, fits, count, spend}
+use Rattle.theory.specs.Meter.{limited, fits, count, spend}
 use Rattle.theory.specs.Search.{close}
 use Rattle.theory.proofs.Charges.{made}
 use Rattle.proof_term.proofs.NodeLaws.{Fitting}
@@ -22,15 +22,16 @@ use Rattle.context.specs.declared.Answer.{Answer}
 use Rattle.context.specs.declared.Answer.the-variants.{Found, Short}
 use Rattle.context.specs.Moves.{stretch, most, spent, limitsOf}
 use Rattle.context.specs.Area.{Rec, none}
-use Rattle.representation.specs.Reading.{Lent, lent, book, unorderedIn, orderedIn, seqOf, Shows, putNodes}
-use Rattle.representation.specs.Keeping.{Same, Laid, Rooms, Within, Seats, Rep, Frame, Kept}
-use Rattle.representation.specs.Meaning.{says-found, says-short, Comes, asks, Meets}
+use Rattle.representation.specs.Reading.{Lent, lent, book, seqOf, Shows, putNodes}
+use Rattle.representation.specs.Keeping.{Laid, Rooms, Within, Rep, Frame, Kept}
+use Rattle.representation.specs.Meaning.{says-found, says-short, Comes}
 use Rattle.representation.specs.Closing.{Closes, closes-short, closes-node}
 use Rattle.representation.proofs.Same.{same-refl, same-less, book-same, take-same, frame-refl, frame-trans, rooms-after}
-use Rattle.representation.proofs.Seat.{unordered-length, ordered-length}
+use Rattle.representation.proofs.Seat.{unordered-length, ordered-length, seats-own}
+use Rattle.representation.proofs.Areas.{Area}
 use Rattle.representation.proofs.Write.{put-same, put-more, AllFit, Words}
-use Rattle.representation.proofs.Combine.{comes-as, comes-now, premise, kept-on}
-use Rattle.representation.proofs.Charge.{words-many, Passes, charge-ok}
+use Rattle.representation.proofs.Combine.{comes-now}
+use Rattle.representation.proofs.Charge.{words-many, Passes}
 
 by-length : (r : Rule) (ps : List Piece) → length (by r ps) ≡ length ps
 by-length r [] = refl
@@ -59,7 +60,7 @@ count-seq w q = ap₂ (λ (a b : ℕ). a + b) (unordered-length w (q .level) (q 
 pub record Made (m : Limits) (x : Lent) (s : State) (q : Sequent) (u : ℕ) (ws : Book) (ns : List Node) (Q : M.Sequent) (x1 : Lent)
     (s1 : State) (q1 : Sequent) : Type 0 where
   pub rep : Rep m x1 s1 q1
-  pub frame : Frame x (s .formulas) (s .terms) (q .level) x1
+  pub frame : Frame x (s .formulas) (s .terms) (q1 .level) x1
   pub formulas-up : s .formulas ≤ s1 .formulas
   pub terms-up : s .terms ≤ s1 .terms
   pub level-up : q .level ≤ q1 .level
@@ -71,38 +72,28 @@ pub record Made (m : Limits) (x : Lent) (s : State) (q : Sequent) (u : ℕ) (ws 
 pub made-of : {m : Limits} {x : Lent} {s : State} {q : Sequent} {ws : Book} {f1 t1 : List ℕ} {w1 : List Rec} {s1 : State} {q1 : Sequent}
     {us os : List M.Entry} (rule : Rule) (u : ℕ) (ps : List Piece) (Q : M.Sequent) → Rep m x s q → Words (x .words) (s .formulas) ws f1 →
     t1 ≡ putNodes (x .numbers) (s .terms) ps → AllFit ps → s1 ≡ spent s u (length ws) (length ps) → u ≤ most →
-    s .formulas + length ws ≤ m .formulas → s .terms + length ps ≤ m .terms → Same none (q .level * stretch) (x .records) w1 →
-    Seats m (s .formulas + length ws) (s .terms + length ps) w1 q1 us os → q .level ≤ q1 .level →
-    Q ≡ record { unordered = us; ordered = os; goal = q1 .goal; level = q1 .level } →
+    s .formulas + length ws ≤ m .formulas → s .terms + length ps ≤ m .terms →
+    Area m (s .formulas + length ws) (s .terms + length ps) (q1 .level) (x .records) w1 q1 us os → q .level ≤ q1 .level →
+    Q .unordered ≡ us → Q .ordered ≡ os → Q .goal ≡ q1 .goal → Q .level ≡ q1 .level →
     Made m x s q u ws (by rule ps) Q (lent f1 t1 w1) s1 q1
-made-of {m} {x} {s} {q} {ws} {f1} {t1} {w1} {s1} {q1} {us} {os} rule u ps Q rep wo et fitting es hu hf ht area seats lv eq =
+made-of {m} {x} {s} {q} {ws} {f1} {t1} {w1} {s1} {q1} {us} {os} rule u ps Q rep wo et fitting es hu hf ht area lv eu eo eg el =
     subst (λ (v : State). Made m x s q u ws (by rule ps) Q (lent f1 t1 w1) v q1) (sym es)
     (subst (λ (t : List ℕ). Made m x s q u ws (by rule ps) Q (lent f1 t w1) (spent s u (length ws) (length ps)) q1) (sym et) all)
   where
     y : Lent
     y = lent f1 (putNodes (x .numbers) (s .terms) ps) w1
 
-    frame : Frame x (s .formulas) (s .terms) (q .level) y
-    frame = record { words = wo .same; numbers = put-same (x .numbers) (s .terms) ps; records = area }
+    frame : Frame x (s .formulas) (s .terms) (q1 .level) y
+    frame = record { words = wo .same; numbers = put-same (x .numbers) (s .terms) ps; records = area .same }
 
     seq : Q ≡ seqOf w1 q1
-    seq = eq ∙ ap₂ (λ (u o : List M.Entry). record { unordered = u; ordered = o; goal = q1 .goal; level = q1 .level })
-        (sym (seats .unordered-is)) (sym (seats .ordered-is))
+    seq =
+        ap₂ (λ (g l : ℕ). record { unordered = Q .unordered; ordered = Q .ordered; goal = g; level = l }) eg el
+        ∙ ap₂ (λ (u o : List M.Entry). record { unordered = u; ordered = o; goal = q1 .goal; level = q1 .level })
+        (eu ∙ sym (area .seats .unordered-is)) (eo ∙ sym (area .seats .ordered-is))
 
     counted : count Q ≡ q1 .unordered + q1 .ordered
     counted = ap count seq ∙ count-seq w1 q1
-
-    seats-is : Seats m (s .formulas + length ws) (s .terms + length ps) w1 q1 (unorderedIn w1 (q1 .level) (q1 .unordered))
-        (orderedIn w1 (q1 .level) (q1 .ordered))
-    seats-is = record {
-      level-in = seats .level-in;
-      fits = seats .fits;
-      goal-in = seats .goal-in;
-      unordered-in = seats .unordered-in;
-      ordered-in = seats .ordered-in;
-      unordered-is = refl;
-      ordered-is = refl;
-    }
 
     room6 : (s .terms + length ps) * nodeWidth ≤ length (x .numbers)
     room6 = omega (arith, rep .rooms .numbers-room)
@@ -113,7 +104,7 @@ made-of {m} {x} {s} {q} {ws} {f1} {t1} {w1} {s1} {q1} {us} {os} rule u ps Q rep 
         rooms = rooms-after frame (rep .rooms);
         within = record { in-steps = rep .within .in-steps; in-indices = hu; in-formulas = hf; in-terms = ht };
         laid = wo .laid (rep .laid);
-        seats = seats-is;
+        seats = seats-own (area .seats);
       };
       frame = frame;
       formulas-up = omega arith;
@@ -131,20 +122,10 @@ made-of {m} {x} {s} {q} {ws} {f1} {t1} {w1} {s1} {q1} {us} {os} rule u ps Q rep 
         indices = hu;
         formulas = omega (arith, words-many sh);
         terms = omega (arith, sh .many, by-length rule ps);
-        contexts = omega (arith, counted, seats .fits);
-        levels = omega (arith, seats .level-in, ap (λ (R : M.Sequent). R .level) eq);
+        contexts = omega (arith, counted, area .seats .fits);
+        levels = omega (arith, area .seats .level-in, el);
       };
     }
-
-module _ {j : M.Judgement} {m : Limits} {taken : List (List ℕ)} {x x1 y : Lent} {s s1 : State} {q q1 : Sequent} {u : ℕ} {ws : Book}
-    {ns : List Node} {Q : M.Sequent} {r : Answer} (mk : Made m x s q u ws ns Q x1 s1 q1) (p : Meets j m taken x1 s1 q1 r y) where
-  -- the charge, and then the premise
-  pub made-asks : {S : M.State} → Shows x s S → Comes y r (λ d. charge (limitsOf m) u ws ns Q S (λ S1. asks m taken d j Q S1))
-  made-asks {S} sh = comes-as _ (λ d. charge-ok m u ws ns Q S (λ S1. asks m taken d j Q S1) (mk .room S sh))
-      (premise p (mk .next) (mk .shows S sh))
-
-  pub made-kept : Kept m x s q r y
-  made-kept = kept-on r (mk .frame) (mk .formulas-up) (mk .terms-up) (mk .level-up) (p .kept)
 
 module _ {m : Limits} {x : Lent} {s : State} {p : Piece} (rooms : Rooms m x) (fitting : Fitting p) where
   -- the last node of a rule is what theory's rule ends with

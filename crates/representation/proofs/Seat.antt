@@ -62,6 +62,18 @@ module _ {m : Limits} {nf nt : ℕ} {w : List Rec} {q : Sequent} {us os : List E
       up : {i : ℕ} → Inside nf nt w i → Inside nf1 nt1 w i
       up y = record { formula-in = omega (arith, y .formula-in); term-in = omega (arith, y .term-in) }
 
+  -- the contexts as they are read off
+  pub seats-own : Seats m nf nt w q (unorderedIn w (q .level) (q .unordered)) (orderedIn w (q .level) (q .ordered))
+  seats-own = record {
+    level-in = x .level-in;
+    fits = x .fits;
+    goal-in = x .goal-in;
+    unordered-in = x .unordered-in;
+    ordered-in = x .ordered-in;
+    unordered-is = refl;
+    ordered-is = refl;
+  }
+
   -- the last ordered record is in use
   pub top-in : 0 < q .ordered → Inside nf nt w (topPlace q)
   top-in h = subst (Inside nf nt w) (let p : q .level * stretch + stretch - 1 - (q .ordered - 1) ≡ topPlace q = omega (arith, x .fits) in p)

@@ -3,3 +3,4 @@ pub mod Reading
 pub mod Keeping
 pub mod Meaning
 pub mod Closing
+pub mod Parts

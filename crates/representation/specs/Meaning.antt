@@ -47,6 +47,11 @@ pub record Goes (j : M.Judgement) (m : Limits) (taken : List (List ℕ)) (x : Le
   pub means : (S : M.State) → Shows x s S → Comes y r (λ d. rule (limited (limitsOf m)) taken (asks m taken d) j (seqOf (x .records) q) S)
   pub kept : Kept m x s q r y
 
+-- the same of a part of a rule: what theory computes at each depth from each state that the lists show
+pub record Gives (C : ℕ → M.State → M.Answer) (m : Limits) (x : Lent) (s : State) (q : Sequent) (r : Answer) (y : Lent) : Type 0 where
+  pub means : (S : M.State) → Shows x s S → Comes y r (λ d. C d S)
+  pub kept : Kept m x s q r y
+
 -- the measure: Dyckhoff's size of the sequent that the slices hold
 unfoldable pub weigh : M.Judgement → List ℕ → ℕ → List Rec → Sequent → ℕ
 weigh j f n w q = sizeOf (asked (book f n) j (seqOf w q))
