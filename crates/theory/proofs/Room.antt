@@ -44,11 +44,11 @@ module _ (L : Limits) (ws₀ : Book) where
     b-unfinished : Bounded unfinished
 
   -- equal answers within the limits
-  record Same (a b : Answer) : Type 0 where
-    same : a ≡ b
-    bounded : Bounded a
+  pub record Same (a b : Answer) : Type 0 where
+    pub same : a ≡ b
+    pub bounded : Bounded a
 
-  one : {a : Answer} → Bounded a → Same a a
+  pub one : {a : Answer} → Bounded a → Same a a
   one b = record { same = refl; bounded = b }
 
   -- with other steps and indices
@@ -60,14 +60,14 @@ module _ (L : Limits) (ws₀ : Book) where
     imply = i .imply;
   }
 
-  same-step : (s : State) (k k′ : State → Answer) → Kept s → ((s₁ : State) → Kept s₁ → Same (k s₁) (k′ s₁)) →
+  pub same-step : (s : State) (k k′ : State → Answer) → Kept s → ((s₁ : State) → Kept s₁ → Same (k s₁) (k′ s₁)) →
       Same (enter L s k) (enter L s k′)
   same-step s k k′ i f =
       at-step L Same s k k′ (λ e. one (b-short (i .within .steps) (λ p. e)))
       (λ t. f (entered s) (later i (suc (s .steps)) (s .used) t (i .within .names)))
 
   -- a charge tests the state and the sequent that it leads to
-  same-charge : (u : ℕ) (vs : Book) (ns : List Node) (q : Sequent) (s : State) (k k′ : State → Answer) → Kept s → AllImply vs →
+  pub same-charge : (u : ℕ) (vs : Book) (ns : List Node) (q : Sequent) (s : State) (k k′ : State → Answer) → Kept s → AllImply vs →
       ((s₁ : State) → Kept s₁ → Room L q → Same (k s₁) (k′ s₁)) → Same (charge L u vs ns q s k) (charge L u vs ns q s k′)
   same-charge u vs ns q s k k′ i v f =
       at-charge L Same u vs ns q s k k′ (λ l n. one (b-short (i .within .steps) (λ p. absurd (n p))))
@@ -85,7 +85,7 @@ module _ (L : Limits) (ws₀ : Book) where
       })
       (record { contexts = p .contexts; levels = p .levels })
 
-  same-nodes : (ns : List Node) (s : State) (k k′ : State → Answer) → Kept s → ((s₁ : State) → Kept s₁ → Same (k s₁) (k′ s₁)) →
+  pub same-nodes : (ns : List Node) (s : State) (k k′ : State → Answer) → Kept s → ((s₁ : State) → Kept s₁ → Same (k s₁) (k′ s₁)) →
       Same (spend L ns s k) (spend L ns s k′)
   same-nodes ns s k k′ i f =
       at-nodes L Same ns s k k′ (one (b-short (i .within .steps) (λ p. absurd (let z : _≡_ {A = ℕ} 0 1 = cc in omega arith))))
@@ -101,7 +101,7 @@ module _ (L : Limits) (ws₀ : Book) where
         imply = i .imply;
       })
 
-  same-premise : (a b : Answer) (k k′ : ℕ → State → Answer) → Same a b → ((t : ℕ) (s : State) → Kept s → Same (k t s) (k′ t s)) →
+  pub same-premise : (a b : Answer) (k k′ : ℕ → State → Answer) → Same a b → ((t : ℕ) (s : State) → Kept s → Same (k t s) (k′ t s)) →
       Same (andThen a k) (andThen b k′)
   unfolding andThen
   same-premise a b k k′ r f = subst (λ (x : Answer). Same (andThen a k) (andThen x k′)) (r .same) (go (r .bounded))
@@ -112,7 +112,7 @@ module _ (L : Limits) (ws₀ : Book) where
       go (b-short x y) = one (b-short x y)
       go b-unfinished = one b-unfinished
 
-  same-try : (s₀ : State) (a b : Answer) (k k′ : ℕ → State → Answer) (o o′ : Tree → State → Answer) → Kept s₀ → Same a b →
+  pub same-try : (s₀ : State) (a b : Answer) (k k′ : ℕ → State → Answer) (o o′ : Tree → State → Answer) → Kept s₀ → Same a b →
       ((t : ℕ) (s : State) → Kept s → Same (k t s) (k′ t s)) → ((m : Tree) (s : State) → Kept s → Same (o m s) (o′ m s)) →
       Same (attempt s₀ a k o) (attempt s₀ b k′ o′)
   unfolding attempt
@@ -124,7 +124,7 @@ module _ (L : Limits) (ws₀ : Book) where
       go (b-short x y) = one (b-short x y)
       go b-unfinished = one b-unfinished
 
-  same-fail : (m : Tree) (s : State) → Kept s → Same (fail m s) (fail m s)
+  pub same-fail : (m : Tree) (s : State) → Kept s → Same (fail m s) (fail m s)
   unfolding fail
   same-fail m s i = one (b-failed (i .within .steps) (i .within .names))
 
