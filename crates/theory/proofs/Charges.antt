@@ -1,11 +1,10 @@
 -- A step, a charge and the nodes alone: the tests pass and the search goes on, or there is a shortage. Assumes nothing.
 use Prim.Native.Nat.{ℕ, suc, _+_}
-use mathlib.Core.Path.{_≡_, refl}
+use mathlib.Core.Path.{_≡_, refl, sym, subst}
 use mathlib.Core.Logic.{_≢_}
 use mathlib.Core.Bool.{Bool, true, false}
 use mathlib.Core.Option.{Option, none, some}
 use mathlib.Core.List.{List, _++_}
-use native.Mathlib.Omega.{arith}
 use lib.Dec.{T}
 use lib.ListN.{length}
 use Rattle.theory.specs.Form.{Book}
@@ -27,6 +26,15 @@ noded s ns = record { words = s .words; nodes = s .nodes ++ ns; used = s .used; 
 
 abbrev pub entered : State → State
 entered s = record { words = s .words; nodes = s .nodes; used = s .used; steps = suc (s .steps) }
+
+-- of what can run short, a charge and nodes test all but steps
+abbrev pub IsSteps : Lack → Type 0
+IsSteps Steps = Unit {0}
+IsSteps Names = ⊥
+IsSteps Formulas = ⊥
+IsSteps Terms = ⊥
+IsSteps Contexts = ⊥
+IsSteps Levels = ⊥
 
 -- what the tests of a charge say where they pass
 pub record Paid (L : Limits) (u : ℕ) (vs : Book) (ns : List Node) (q : Sequent) (s : State) : Type 0 where
@@ -65,11 +73,11 @@ module _ (L : Limits) (P : Answer → Answer → Type 0) where
 
       go : (a b c d e : Bool) → (T a → T b → T c → T d → T e → P (k (made s u vs ns)) (k′ (made s u vs ns))) →
           P (out k (tests a b c d e)) (out k′ (tests a b c d e))
-      go false b c d e f = shortage Names (λ p. let z : _≡_ {A = ℕ} 0 1 = cc in omega arith)
-      go true false c d e f = shortage Formulas (λ p. let z : _≡_ {A = ℕ} 0 1 = cc in omega arith)
-      go true true false d e f = shortage Terms (λ p. let z : _≡_ {A = ℕ} 0 1 = cc in omega arith)
-      go true true true false e f = shortage Contexts (λ p. let z : _≡_ {A = ℕ} 0 1 = cc in omega arith)
-      go true true true true false f = shortage Levels (λ p. let z : _≡_ {A = ℕ} 0 1 = cc in omega arith)
+      go false b c d e f = shortage Names (λ p. subst IsSteps (sym p) tt)
+      go true false c d e f = shortage Formulas (λ p. subst IsSteps (sym p) tt)
+      go true true false d e f = shortage Terms (λ p. subst IsSteps (sym p) tt)
+      go true true true false e f = shortage Contexts (λ p. subst IsSteps (sym p) tt)
+      go true true true true false f = shortage Levels (λ p. subst IsSteps (sym p) tt)
       go true true true true true f = f tt tt tt tt tt
 
   pub at-nodes : (ns : List Node) (s : State) (k k′ : State → Answer) → P (short Terms (s .steps)) (short Terms (s .steps)) →

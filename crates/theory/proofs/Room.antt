@@ -5,7 +5,6 @@ use mathlib.Core.Path.{_≡_, refl, sym, ap, _∙_, subst}
 use mathlib.Core.Bool.{false}
 use mathlib.Core.List.{List, [], _∷_, _++_, append-nil, append-assoc}
 use native.Mathlib.Nat.{le-trans}
-use native.Mathlib.Omega.{arith}
 use lib.Dec.{T, leb→le, le→leb}
 use lib.ListN.{length-append}
 use Rattle.theory.specs.Form.{Book}
@@ -15,7 +14,7 @@ use Rattle.theory.specs.World.{Tree}
 use Rattle.theory.specs.Meter.{Bound, upTo, free, fits, Limits, Lack, Steps, Sequent, State, Answer, found, failed, short, unfinished}
 use Rattle.theory.specs.Meter.{Judgement, Ask, count, andThen, attempt, charge, spend, enter, fail, limited, Within, Room}
 use Rattle.theory.specs.Search.{rule, run, given, prove}
-use Rattle.theory.proofs.Charges.{made, noded, entered, restart, at-charge, at-nodes, at-step}
+use Rattle.theory.proofs.Charges.{IsSteps, made, noded, entered, restart, at-charge, at-nodes, at-step}
 use Rattle.theory.proofs.Alike.{AllImply, Alike, alike, alike-rule, alike-run}
 
 -- where a number fits a limit, a smaller one does
@@ -88,7 +87,7 @@ module _ (L : Limits) (ws₀ : Book) where
   pub same-nodes : (ns : List Node) (s : State) (k k′ : State → Answer) → Kept s → ((s₁ : State) → Kept s₁ → Same (k s₁) (k′ s₁)) →
       Same (spend L ns s k) (spend L ns s k′)
   same-nodes ns s k k′ i f =
-      at-nodes L Same ns s k k′ (one (b-short (i .within .steps) (λ p. absurd (let z : _≡_ {A = ℕ} 0 1 = cc in omega arith))))
+      at-nodes L Same ns s k k′ (one (b-short (i .within .steps) (λ p. absurd (subst IsSteps (sym p) tt))))
       λ p. f (noded s ns) (record {
         within = record {
           names = i .within .names;

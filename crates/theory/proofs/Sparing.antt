@@ -13,6 +13,7 @@ use Rattle.theory.specs.Names.{skipped}
 use Rattle.theory.specs.Meter.{Bound, fits, Limits, Lack, Names, Formulas, Terms, Contexts, Levels, Sequent, State, Answer, short}
 use Rattle.theory.specs.Meter.{count, lacking, charge, limited, freeIf, onAdded, sparing, Within}
 use Rattle.theory.specs.Search.{given, whole, prove}
+use Rattle.theory.proofs.Tests.{true-of}
 use Rattle.theory.proofs.Charges.{made}
 use Rattle.theory.proofs.Alike.{Alike, alike}
 use Rattle.theory.proofs.Room.{fits-down, Kept, b-found, b-unfinished, Same, one, same-step, same-charge, same-nodes, same-premise}
@@ -21,11 +22,7 @@ use Rattle.theory.proofs.Room.{same-try, same-fail}
 -- a test that must pass where it is left out
 left-out : (out : Bool) (b : Bound) (n : ℕ) → (T out → T (fits b n)) → fits b n ≡ fits (freeIf out b) n
 unfolding fits
-left-out true b n h = holds (fits b n) (h tt)
-  where
-    holds : (c : Bool) → T c → c ≡ true
-    holds true t = refl
-    holds false t = absurd t
+left-out true b n h = true-of (fits b n) (h tt)
 left-out false b n h = refl
 
 module _ (L : Limits) where

@@ -1,5 +1,7 @@
--- Tests joined by && and ||, taken apart and put together. Assumes nothing.
+-- Tests joined by && and ||, taken apart and put together; and that none is no some. Assumes nothing.
 use mathlib.Core.Bool.{Bool, true, false, _&&_, _||_}
+use mathlib.Core.Path.{_≡_, refl, sym, subst}
+use mathlib.Core.Option.{Option, none, some}
 use mathlib.Core.Logic.{_⊎_, inl, inr}
 use lib.Dec.{T}
 
@@ -29,3 +31,21 @@ or-left false b t = absurd t
 pub or-right : (a b : Bool) → T b → T (a || b)
 or-right true b t = tt
 or-right false b t = t
+
+-- a test that holds is true
+pub true-of : (b : Bool) → T b → b ≡ true
+true-of true t = refl
+true-of false t = absurd t
+
+-- none is no some
+Some : {A : Type 0} → Option A → Type 0
+Some none = ⊥
+Some (some x) = Unit {0}
+
+pub none-some : {A : Type 0} {x : A} → none ≡ some x → ⊥
+unfolding Some
+none-some {A} {x} e = subst Some (sym e) tt
+
+pub some-none : {A : Type 0} {x : A} → some x ≡ none → ⊥
+unfolding Some
+some-none e = subst Some e tt
