@@ -10,20 +10,21 @@ use lib.ListN.{length, take, replicate}
 use Rattle.theory.specs.Form.{form, shape, badWord}
 use Rattle.theory.specs.Term.{Term, term, Derives, AllNamesHave}
 use Rattle.theory.specs.Names.{skipped, bytesOf, GoodName}
-use Rattle.theory.specs.NameText.{namesIn, padded, emptied, nameAlone}
-use Rattle.theory.specs.Layout.{nodeWidth, nodesIn, badTerm}
+use Rattle.theory.specs.NameText.{namesIn, badName, padded, emptied, nameAlone}
+use Rattle.theory.specs.Layout.{nodeWidth, nodesIn, badNodeFrom, badTerm}
 use Rattle.theory.specs.World.{Tree, modelOf, ForcesEach, firstWorld}
 use Rattle.theory.specs.Kripke.{Lawful, frame, forces}
 use Rattle.theory.specs.Meter.{Lack, Steps, short, unfinished}
 use Rattle.theory.specs.Log.{Logged, readOff}
 use Rattle.theory.specs.Written.{assumptions, Logs}
 use Rattle.theory.specs.Text.{termText}
-use Rattle.theory.specs.Refusal.{Fault, Sizes, Refused}
+use Rattle.theory.specs.Refusal.{Fault, Sizes, Refused, badAssumption}
 use Rattle.theory.specs.Call.{Claim, givenWords, givenBook, refusal, searchLimits, searched, proved, unprovable, shortage, refused}
 use Rattle.theory.specs.Call.{After, recordsAfter, givenBack, unchanged, answered, called}
 use Rattle.theory.specs.Writer.{termDepth, Draft, writerRefusal, drafted, written}
 use Rattle.theory.specs.Status.{rejected, Inquiry, firstClaim, secondClaim, secondOutcome, cleanedUp, asked}
 use Rattle.theory.specs.File.{File, decoded, claimOf, draftOf, printed}
+use Rattle.theory.specs.Places.{LowestWord, FirstOutside, FirstFaulty, LowestNode}
 use Rattle.theory.specs.Owed.{Faulty, Bounds, ZeroAbove, Grown, FitIn, Decided, draftAfter, Says, Passes}
 use Rattle.theory.proofs.Written.{one-log-only}
 use Rattle.theory.proofs.Passing.{passes}
@@ -35,6 +36,8 @@ use Rattle.theory.proofs.MoreRoom
 use Rattle.theory.proofs.Writes
 use Rattle.theory.proofs.StatusCalls
 use Rattle.theory.proofs.Faults
+use Rattle.theory.proofs.FirstFaults
+use Rattle.theory.proofs.FirstName
 use Rattle.theory.proofs.FileRead
 use Rattle.theory.proofs.Printed
 
@@ -68,7 +71,8 @@ module _ (x : Claim) where
   pub lengths-kept : (length ((called x) .words) ≡ length (x .words)) × (length ((called x) .terms) ≡ length (x .terms))
   lengths-kept = Slices.lengths x
 
-  -- the numbers that come back are within what was lent
+  -- the numbers that come back are within what was lent; a proved term's root is one of its nodes, and Unprovable's fills are the given
+  -- count and 0
   pub numbers-fit : FitIn x ((called x) .outcome)
   numbers-fit = Outcomes.numbers-fit x
 
@@ -118,7 +122,7 @@ module _ (x : Claim) where
     λ q. ap (λ (a : After). a .outcome) (Called.read-call x e l h ∙ ap (answered x) q),
   )
 
-  -- "Proved derives": the term that comes back derives the goal from the assumptions, and its root is one of its nodes
+  -- "Proved derives": the term that comes back, decoded from the words and numbers in the slices, derives the goal from the assumptions
   pub sound-call : {r n u f t : ℕ} → (called x) .outcome ≡ proved r n u f t →
       Derives (assumptions (givenBook x) 0 (x .assumed))
       (term (map shape (take f ((called x) .words))) (nodesIn ((called x) .terms) t) r) (form (givenBook x) (x .goal))
@@ -160,6 +164,21 @@ module _ (x : Claim) where
       GoodName (skipped (namesIn (x .text))) (length (x .assumed)) u y → GoodName (skipped (namesIn (x .text))) (length (x .assumed)) u z →
       bytesOf (namesIn (x .text)) y ≡ bytesOf (namesIn (x .text)) z → y ≡ z
   names-apart e = Outcomes.named-apart x (Called.proves x e)
+
+-- the places that come back: the lowest word, the first assumption, the first name and the lowest node at fault
+pub lowest-word : (ws : List ℕ) (i : ℕ) → badWord ws ≡ some i → LowestWord ws i
+lowest-word = FirstFaults.lowest-word
+
+pub first-assumption : (count : ℕ) (hs : List ℕ) (i : ℕ) → badAssumption count hs ≡ some i →
+    ((64 < length hs) × (i ≡ 64)) ⊎ ((length hs ≤ 64) × FirstOutside count hs i)
+first-assumption = FirstFaults.first-assumption
+
+pub first-name : (count : ℕ) (text : List ℕ) (i : ℕ) → badName count text ≡ some i → FirstFaulty count text i
+first-name = FirstName.first-name
+
+pub lowest-node : (names : List (List ℕ)) (count : ℕ) (t : List ℕ) (nodes root i : ℕ) → badTerm names count t nodes root ≡ some i →
+    LowestNode names count t nodes i ⊎ ((badNodeFrom names count t 0 nodes ≡ none) × (nodes ≤ root) × (i ≡ nodes))
+lowest-node = FirstFaults.lowest-node
 
 -- "more room changes nothing": a Proved or Unprovable outcome stays as it is when slices or the step limit grow, words and nodes included
 pub roomier-call : {x y : Claim} → Grown x y → Decided ((called x) .outcome) → (called y) .outcome ≡ (called x) .outcome
