@@ -8,7 +8,7 @@ use Rattle.theory.specs.Form.{Form, top, bot, leaf, and, or, imp, form, 
 use Rattle.theory.specs.NameText.{padded}
 use Rattle.theory.specs.Meter.{Lack, Formulas}
 use Rattle.theory.specs.Refusal.{Fault}
-use Rattle.theory.specs.Call.{Claim, givenWords, givenBook, Outcome, proved, unprovable, shortage, refused, called}
+use Rattle.theory.specs.Call.{Claim, givenWords, givenBook, Outcome, proved, unprovable, shortage, refused, Numbers, numbers, called}
 
 -- "ForAll, Exists or free symbol": "symbols from 8,192 up carry free parameters"
 unfoldable pub openForm : Form → Bool
@@ -29,6 +29,12 @@ pub data Status : Type 0 where
   settled : Verdict → Status
   ranShort : Lack → ℕ → Status
   rejected : Fault → ℕ → Status
+
+-- the numbers that come back: none with a verdict, those of a shortage or of a refusal else
+unfoldable pub statusNumbers : Status → Numbers
+statusNumbers (settled v) = record { number = 0; place = 0; root = 0; steps = 0; indices = 0; formulas = 0; terms = 0 }
+statusNumbers (ranShort l n) = numbers (shortage l n)
+statusNumbers (rejected f i) = numbers (refused f i)
 
 -- the second search: "proved is Unsolvable, anything else, a shortage included, is Unknown"
 unfoldable pub refuted : Outcome → Status
