@@ -14,3 +14,7 @@ pub mod Right
 pub mod RightImpl
 pub mod Moving
 pub mod Left
+pub mod Leaf
+pub mod PutApart
+pub mod Fires
+pub mod Firing

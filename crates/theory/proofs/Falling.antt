@@ -31,10 +31,16 @@ module _ (ws : Book) where
   leaf-step k y e xs ys h = ap (λ (r : Option ℕ). elim (isLeaf? k y (look ws (e .formula))) [ true ↦ some (e .proof) | false ↦ r ]) h
 
   -- a record that is no leaf is passed over
-  leaf-over : (k y : ℕ) (e : Entry) (xs : List Entry) → isLeaf? k y (look ws (e .formula)) ≡ false →
+  pub leaf-over : (k y : ℕ) (e : Entry) (xs : List Entry) → isLeaf? k y (look ws (e .formula)) ≡ false →
       firstLeaf ws k y (e ∷ xs) ≡ firstLeaf ws k y xs
   unfolding firstLeaf
   leaf-over k y e xs h = ap (λ (b : Bool). elim b [ true ↦ some (e .proof) | false ↦ firstLeaf ws k y xs ]) h
+
+  -- a record that is the leaf is found
+  pub leaf-here : (k y : ℕ) (e : Entry) (xs : List Entry) → isLeaf? k y (look ws (e .formula)) ≡ true →
+      firstLeaf ws k y (e ∷ xs) ≡ some (e .proof)
+  unfolding firstLeaf
+  leaf-here k y e xs h = ap (λ (b : Bool). elim b [ true ↦ some (e .proof) | false ↦ firstLeaf ws k y xs ]) h
 
   -- one record, kept or fired, is passed over or found alike
   leaf-at : (us : List Entry) (k y n : ℕ) (e : Entry) (es : List Entry) (o : Option (ℕ × ℕ)) → fireShape ws us (look ws (e .formula)) ≡ o →
