@@ -3,7 +3,6 @@ use Prim.Native.Nat.{ℕ}
 use mathlib.Core.Path.{_≡_, refl, ap, subst}
 use mathlib.Core.Bool.{Bool, true, false}
 use mathlib.Core.Option.{Option, none, some}
-use native.Mathlib.Omega.{arith}
 use borrow.Author.Tests.{ltb-false}
 use lib.Dec.{T, ltb}
 use lib.ListN.{length}
@@ -13,6 +12,7 @@ use Rattle.theory.specs.Refusal.{Fault, Sizes, BadFormula, BadAssumption
 use Rattle.theory.specs.Refusal.{badAssumption, badGoal}
 use Rattle.theory.specs.Call.{Claim, rightSizes, givenWords, refusal}
 use Rattle.theory.specs.Owed.{Faulty}
+use Rattle.theory.proofs.Tests.{none-some}
 use Rattle.theory.proofs.Passing.{fault-none, unless-none}
 
 -- the first of two tests refuses, or it passes and the second does
@@ -28,7 +28,7 @@ either (some s) b r e = first e
 -- a fault at a place is that fault there
 fault-at : (g : Fault) (o : Option ℕ) (r : Refused) → faultAt g o ≡ some r → (g ≡ r .fault) × (o ≡ some (r .place))
 unfolding faultAt
-fault-at g none r e = absurd (let z : _≡_ {A = ℕ} 0 1 = cc in omega arith)
+fault-at g none r e = absurd (none-some e)
 fault-at g (some j) r e =
     let q : _≡_ {A = Refused} (record { fault = g; place = j }) r = cc in
     (ap (λ (s : Refused). s .fault) q, ap (λ (s : Refused). some (s .place)) q)
@@ -36,7 +36,7 @@ fault-at g (some j) r e =
 -- a test that fails has place 0
 unless-at : (b : Bool) (i : ℕ) → unless b ≡ some i → (b ≡ false) × (i ≡ 0)
 unfolding unless
-unless-at true i e = absurd (let z : _≡_ {A = ℕ} 0 1 = cc in omega arith)
+unless-at true i e = absurd (none-some e)
 unless-at false i e = (refl, cc)
 
 -- a refused claim breaks what its fault says, where its place says

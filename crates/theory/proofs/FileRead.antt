@@ -14,19 +14,19 @@ use Rattle.theory.specs.Call.{rightSizes}
 use Rattle.theory.specs.File.{cutBytes, cutNumber, cutNumbers, cutCount, cutSection, formulaCount, assumptionCount, goalCount}
 use Rattle.theory.specs.File.{Assumptions, cutAssumptions, File, cutGoals, cutRules, decoded, claimOf}
 use Rattle.theory.specs.Owed.{Bounds}
-use Rattle.theory.proofs.Tests.{and-T}
+use Rattle.theory.proofs.Tests.{and-T, none-some}
 use Rattle.theory.proofs.Slices.{padded-length}
 
 -- what was cut, where the whole is no fault
 got : {A B : Type 0} (o : Option A) (k : A → Option B) (b : B) → _≡_ {A = Option B} (elim o [ none ↦ none | some a ↦ k a ]) (some b) →
     (a : A) × (o ≡ some a) × (k a ≡ some b)
-got none k b e = absurd (let z : _≡_ {A = ℕ} 0 1 = cc in omega arith)
+got none k b e = absurd (none-some e)
 got (some a) k b e = (a, refl, e)
 
 -- a test that was made on the way
 made : {A : Type 0} (t : Bool) (a b : A) → _≡_ {A = Option A} (elim t [ true ↦ some a | false ↦ none ]) (some b) → T t × (a ≡ b)
 made true a b e = (tt, cc)
-made false a b e = absurd (let z : _≡_ {A = ℕ} 0 1 = cc in omega arith)
+made false a b e = absurd (none-some e)
 
 -- a count is lawful
 count-lawful : (lawful : ℕ → Bool) (bs : List ℕ) (p : ℕ × List ℕ) → cutCount lawful bs ≡ some p → T (lawful (p .0))
@@ -130,7 +130,7 @@ file-bounded bs x e = go (leb (length bs) 32768) e
     go true e =
         let g = got (cutSection formulaCount 4 bs) (λ (p : List ℕ × List ℕ). cutRules (p .0) (p .1)) x e in
         rules-bounded (g .0 .0) (g .0 .1) x (leb→le (length (g .0 .0)) 4096 (section-lawful formulaCount 4 bs (g .0) (g .1))) (g .2)
-    go false e = absurd (let z : _≡_ {A = ℕ} 0 1 = cc in omega arith)
+    go false e = absurd (none-some e)
 
 -- the program's claim has the right sizes
 pub file-sizes : (x : File) (goal : ℕ) → Bounds x → T (rightSizes (claimOf x goal))

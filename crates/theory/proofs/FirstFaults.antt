@@ -15,6 +15,7 @@ use Rattle.theory.specs.Form.{goodWord, badFrom, badWord}
 use Rattle.theory.specs.Layout.{lawfulNode, badNodeFrom, badTerm}
 use Rattle.theory.specs.Refusal.{tooMany, outsideFrom, badAssumption}
 use Rattle.theory.specs.Places.{LowestWord, FirstOutside, LowestNode}
+use Rattle.theory.proofs.Tests.{none-some}
 use Rattle.theory.proofs.Forms.{snoc-length}
 
 -- the words after some that passed: the k-th of them is the lowest at fault
@@ -27,7 +28,7 @@ record LowestFrom (before ws : List ℕ) (i : ℕ) : Type 0 where
 
 lowest-from : (before ws : List ℕ) (i : ℕ) → badFrom before ws ≡ some i → LowestFrom before ws i
 unfolding badFrom
-lowest-from before [] i e = absurd (let z : _≡_ {A = ℕ} 0 1 = cc in omega arith)
+lowest-from before [] i e = absurd (none-some e)
 lowest-from before (w ∷ ws) i e = go (goodWord before w) refl e (lowest-from (before ++ (w ∷ [])) ws i)
   where
     go : (b : Bool) → goodWord before w ≡ b →
@@ -70,7 +71,7 @@ record OutsideFrom (count from : ℕ) (hs : List ℕ) (i : ℕ) : Type 0 where
 
 outside-from : (count from : ℕ) (hs : List ℕ) (i : ℕ) → outsideFrom count from hs ≡ some i → OutsideFrom count from hs i
 unfolding outsideFrom
-outside-from count from [] i e = absurd (let z : _≡_ {A = ℕ} 0 1 = cc in omega arith)
+outside-from count from [] i e = absurd (none-some e)
 outside-from count from (a ∷ hs) i e = go (ltb a count) refl e (outside-from count (suc from) hs i)
   where
     go : (b : Bool) → ltb a count ≡ b →
@@ -112,7 +113,7 @@ module _ (names : List (List ℕ)) (count : ℕ) (t : List ℕ) where
   lowest-node-from : (m k i : ℕ) → ((j : ℕ) → j < m → T (lawfulNode names count t j)) → badNodeFrom names count t m k ≡ some i →
       LowestNode names count t (m + k) i
   unfolding badNodeFrom
-  lowest-node-from m zero i h e = absurd (let z : _≡_ {A = ℕ} 0 1 = cc in omega arith)
+  lowest-node-from m zero i h e = absurd (none-some e)
   lowest-node-from m (suc k) i h e = go (lawfulNode names count t m) refl e (lowest-node-from (suc m) k i)
     where
       go : (b : Bool) → lawfulNode names count t m ≡ b →
@@ -139,7 +140,7 @@ module _ (names : List (List ℕ)) (count : ℕ) (t : List ℕ) where
     where
       place : (b : Bool) → ltb root nodes ≡ b → _≡_ {A = Option ℕ} (elim b [ true ↦ none | false ↦ some nodes ]) (some i) →
           (nodes ≤ root) × (i ≡ nodes)
-      place true p e = absurd (let z : _≡_ {A = ℕ} 0 1 = cc in omega arith)
+      place true p e = absurd (none-some e)
       place false p e = (ltb-false root nodes p, let q : nodes ≡ i = cc in sym q)
 
       go : (o : Option ℕ) → badNodeFrom names count t 0 nodes ≡ o → _≡_ {A = Option ℕ} (elim o [

@@ -11,6 +11,7 @@ use lib.Dec.{T}
 use lib.ListN.{length, getD, take}
 use Rattle.theory.specs.NameText.{cutEntry, namesIn, lawfulAfter, badNameFrom, badName}
 use Rattle.theory.specs.Places.{afterEntries, NameFault, missing, unlawful, surplus, FirstFaulty}
+use Rattle.theory.proofs.Tests.{none-some}
 use Rattle.theory.proofs.Forms.{snoc-length}
 use Rattle.theory.proofs.Entries.{names-next, names-none}
 
@@ -66,7 +67,7 @@ entries-next text count p e =
 faulty-from : (earlier : List (List ℕ)) (count : ℕ) (text : List ℕ) (i : ℕ) → badNameFrom earlier count text ≡ some i →
     FaultyFrom earlier count text (namesIn text) i
 unfolding badNameFrom afterEntries
-faulty-from earlier zero [] i e = absurd (let z : _≡_ {A = ℕ} 0 1 = cc in omega arith)
+faulty-from earlier zero [] i e = absurd (none-some e)
 faulty-from earlier zero (b ∷ bs) i e =
     at-once earlier 0 (b ∷ bs) (namesIn (b ∷ bs)) i (let q : length earlier ≡ i = cc in q)
     (w-surplus refl (λ q. absurd (let z : _≡_ {A = ℕ} 0 1 = cc in omega arith)))

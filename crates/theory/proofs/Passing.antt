@@ -1,6 +1,6 @@
 -- From refusals to facts: a claim that no test of 1 to 5 refuses has what the search's theorems ask for. Assumes nothing.
 use Prim.Native.Nat.{ℕ, suc, _*_, _%_, _≤_, _<_}
-use mathlib.Core.Path.{_≡_, refl, _∙_}
+use mathlib.Core.Path.{_≡_, refl, sym, _∙_}
 use mathlib.Core.Bool.{Bool, true, false, _&&_}
 use mathlib.Core.Option.{Option, none, some}
 use mathlib.Core.List.{List, [], _∷_, map}
@@ -17,7 +17,7 @@ use Rattle.theory.specs.Refusal.{formulaSizes, termSizes, highestLevel, 
 use Rattle.theory.specs.Refusal.{badGoal}
 use Rattle.theory.specs.Call.{Claim, rightSizes, givenWords, givenBook, refusal}
 use Rattle.theory.specs.Owed.{Passes}
-use Rattle.theory.proofs.Tests.{and-left, and-right}
+use Rattle.theory.proofs.Tests.{and-left, and-right, none-some, some-none}
 use Rattle.theory.proofs.Words.{decodes}
 use Rattle.theory.proofs.LawfulNames.{good-names}
 
@@ -25,7 +25,7 @@ use Rattle.theory.proofs.LawfulNames.{good-names}
 pub or-none : (a b : Option Refused) → orElse a b ≡ none → (a ≡ none) × (b ≡ none)
 unfolding orElse
 or-none none b e = (refl, e)
-or-none (some r) b e = absurd (let z : _≡_ {A = ℕ} 0 1 = cc in omega arith)
+or-none (some r) b e = absurd (some-none e)
 
 pub none-or : (a b : Option Refused) → a ≡ none → b ≡ none → orElse a b ≡ none
 unfolding orElse
@@ -34,24 +34,24 @@ none-or (some r) b p q = p
 
 -- what is refused does not pass
 pub not-both : {r : Refused} (o : Option Refused) → o ≡ none → o ≡ some r → ⊥
-not-both o p q = let z : _≡_ {A = ℕ} 0 1 = cc in omega arith
+not-both o p q = none-some (sym p ∙ q)
 
 -- no place, no fault
 pub fault-none : (f : Fault) (o : Option ℕ) → faultAt f o ≡ none → o ≡ none
 unfolding faultAt
 fault-none f none e = refl
-fault-none f (some i) e = absurd (let z : _≡_ {A = ℕ} 0 1 = cc in omega arith)
+fault-none f (some i) e = absurd (some-none e)
 
 pub none-fault : (f : Fault) (o : Option ℕ) → o ≡ none → faultAt f o ≡ none
 unfolding faultAt
 none-fault f none e = refl
-none-fault f (some i) e = absurd (let z : _≡_ {A = ℕ} 0 1 = cc in omega arith)
+none-fault f (some i) e = absurd (some-none e)
 
 -- a test that holds has no place
 pub unless-none : (b : Bool) → unless b ≡ none → T b
 unfolding unless
 unless-none true e = tt
-unless-none false e = absurd (let z : _≡_ {A = ℕ} 0 1 = cc in omega arith)
+unless-none false e = absurd (some-none e)
 
 pub none-unless : (b : Bool) → T b → unless b ≡ none
 unfolding unless
@@ -65,7 +65,7 @@ not-many n e = go (leb n 64) (leb→le n 64) e
   where
     go : (b : Bool) → (T b → n ≤ 64) → _≡_ {A = Option ℕ} (elim b [ true ↦ none | false ↦ some 64 ]) none → n ≤ 64
     go true f e = f tt
-    go false f e = absurd (let z : _≡_ {A = ℕ} 0 1 = cc in omega arith)
+    go false f e = absurd (some-none e)
 
 pub few-enough : (n : ℕ) → n ≤ 64 → tooMany n ≡ none
 unfolding tooMany
@@ -84,7 +84,7 @@ inside ws count p i (a ∷ hs) e = go (ltb a count) (ltb→lt a count) (inside w
     go : (b : Bool) → (T b → a < count) → (outsideFrom count (suc i) hs ≡ none → AllIn ws hs) →
         _≡_ {A = Option ℕ} (elim b [ true ↦ outsideFrom count (suc i) hs | false ↦ some i ]) none → (a < length ws) × AllIn ws hs
     go true f g e = (let h : a < count = f tt in omega arith, g e)
-    go false f g e = absurd (let z : _≡_ {A = ℕ} 0 1 = cc in omega arith)
+    go false f g e = absurd (some-none e)
 
 assumptions-pass : (ws : Book) (count : ℕ) → length ws ≡ count → (hs : List ℕ) → badAssumption count hs ≡ none →
     (length hs ≤ 64) × AllIn ws hs
@@ -94,7 +94,7 @@ assumptions-pass ws count p hs e = go (tooMany (length hs)) refl e
     go : (o : Option ℕ) → tooMany (length hs) ≡ o → _≡_ {A = Option ℕ} (elim o [ some i ↦ some i | none ↦ outsideFrom count 0 hs ]) none →
         (length hs ≤ 64) × AllIn ws hs
     go none q e = (not-many (length hs) q, inside ws count p 0 hs e)
-    go (some i) q e = absurd (let z : _≡_ {A = ℕ} 0 1 = cc in omega arith)
+    go (some i) q e = absurd (some-none e)
 
 -- the sizes of row 1, one slice after another
 pub formula-sizes : (room count : ℕ) → T (formulaSizes room count) → (room ≤ 16384) × (count ≤ room)
