@@ -46,6 +46,14 @@ pub enum Answer {
     Short(usize, State),
 }
 
+// What one turn of left comes to: left again; an answer; the two premises of a disjunction; or the tries of search.
+pub enum Next {
+    Go(State, Sequent),
+    End(Answer),
+    Split(State, Sequent),
+    Try(State, Sequent),
+}
+
 fn wide(x: u16) -> usize
     ensures { λ r. ⌜ r ≡ x ⌝ }
 {

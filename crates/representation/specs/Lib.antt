@@ -5,3 +5,4 @@ pub mod Meaning
 pub mod Leaves
 pub mod Closing
 pub mod Parts
+pub mod Turning
