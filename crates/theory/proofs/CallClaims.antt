@@ -9,8 +9,8 @@ use mathlib.Core.List.{List, map}
 use lib.ListN.{length, take, replicate}
 use Rattle.theory.specs.Form.{form, shape, badWord}
 use Rattle.theory.specs.Term.{Term, term, Derives, AllNamesHave}
-use Rattle.theory.specs.Names.{skipped, bytesOf, GoodName}
-use Rattle.theory.specs.NameText.{namesIn, badName, padded, emptied, nameAlone}
+use Rattle.theory.specs.Names.{spell, skipped, bytesOf, GoodName}
+use Rattle.theory.specs.NameText.{namesIn, badName, padded, emptied, lastIndex, nameAlone}
 use Rattle.theory.specs.Layout.{nodeWidth, nodesIn, badNodeFrom, badTerm}
 use Rattle.theory.specs.World.{Tree, modelOf, ForcesEach, firstWorld}
 use Rattle.theory.specs.Kripke.{Lawful, frame, forces}
@@ -21,7 +21,7 @@ use Rattle.theory.specs.Text.{termText}
 use Rattle.theory.specs.Refusal.{Fault, Sizes, Refused, badAssumption}
 use Rattle.theory.specs.Call.{Claim, givenWords, givenBook, refusal, searchLimits, searched, proved, unprovable, shortage, refused}
 use Rattle.theory.specs.Call.{After, recordsAfter, givenBack, unchanged, answered, called}
-use Rattle.theory.specs.Writer.{termDepth, Draft, writerRefusal, drafted, written}
+use Rattle.theory.specs.Writer.{termDepth, Draft, writerRefusal, drafted, notWritten, written}
 use Rattle.theory.specs.Status.{rejected, Inquiry, firstClaim, secondClaim, secondOutcome, cleanedUp, asked}
 use Rattle.theory.specs.File.{File, decoded, claimOf, draftOf, printed}
 use Rattle.theory.specs.Places.{LowestWord, FirstOutside, FirstFaulty, LowestNode}
@@ -34,6 +34,7 @@ use Rattle.theory.proofs.Returned
 use Rattle.theory.proofs.Outcomes
 use Rattle.theory.proofs.MoreRoom
 use Rattle.theory.proofs.Writes
+use Rattle.theory.proofs.Fitted
 use Rattle.theory.proofs.StatusCalls
 use Rattle.theory.proofs.Faults
 use Rattle.theory.proofs.FirstFaults
@@ -205,6 +206,28 @@ module _ (x : Draft) (e : writerRefusal x ≡ none) where
 
   pub too-long : length (x .buffer) < length (termText (namesIn (x .text)) (drafted x)) → written x ≡ emptied 12 (length (x .buffer))
   too-long = Writes.too-long x e
+
+-- "13 changes nothing and returns its place", and so do 1 to 4
+pub written-refused : (x : Draft) {r : Refused} → writerRefusal x ≡ some r → written x ≡ notWritten x r
+written-refused x e = Writes.refused-draft x e
+
+-- "The written text comes back as the front part of the lent buffer"
+pub written-front : (x : Draft) →
+    (length ((written x) .part) ≤ length ((written x) .buffer)) ×
+    (take (length ((written x) .part)) ((written x) .buffer) ≡ (written x) .part)
+written-front x = let r = Writes.written-front x in (r .long, r .front)
+
+-- "Asked for alone, an index over 4,095 is 7, before 12, and its buffer zero"
+module _ (i room : ℕ) where
+  pub name-late : lastIndex < i → nameAlone i room ≡ emptied 7 room
+  name-late = Fitted.alone-late i room
+
+  pub name-no-room : i ≤ lastIndex → room < length (spell i) → nameAlone i room ≡ emptied 12 room
+  name-no-room = Fitted.alone-no-room i room
+
+  pub name-fits : i ≤ lastIndex → length (spell i) ≤ room →
+      nameAlone i room ≡ record { number = 0; place = 0; part = spell i; buffer = padded room (spell i) }
+  name-fits = Fitted.alone-fits i room
 
 -- a writer's buffer keeps its length
 pub written-length : (x : Draft) → length ((written x) .buffer) ≡ length (x .buffer)

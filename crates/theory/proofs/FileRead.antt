@@ -15,7 +15,7 @@ use Rattle.theory.specs.File.{cutBytes, cutNumber, cutNumbers, cutCount,
 use Rattle.theory.specs.File.{Assumptions, cutAssumptions, File, cutGoals, cutRules, decoded, claimOf}
 use Rattle.theory.specs.Owed.{Bounds}
 use Rattle.theory.proofs.Tests.{and-T, none-some}
-use Rattle.theory.proofs.Slices.{padded-length}
+use Rattle.theory.proofs.Fitted.{padded-length}
 
 -- what was cut, where the whole is no fault
 got : {A B : Type 0} (o : Option A) (k : A → Option B) (b : B) → _≡_ {A = Option B} (elim o [ none ↦ none | some a ↦ k a ]) (some b) →
@@ -136,7 +136,7 @@ file-bounded bs x e = go (leb (length bs) 32768) e
 pub file-sizes : (x : File) (goal : ℕ) → Bounds x → T (rightSizes (claimOf x goal))
 unfolding rightSizes claimOf formulaSizes termSizes workSizes highestLevel isSome
 file-sizes x goal b =
-    let w : length (padded 4096 (x .words)) ≡ 4096 = padded-length 4096 (x .words) (b .words) in
+    let w : length (padded 4096 (x .words)) ≡ 4096 = padded-length (x .words) 4096 (b .words) in
     and-T (formulaSizes (length (padded 4096 (x .words))) (length (x .words))) _
     (and-T (leb (length (padded 4096 (x .words))) 16384) _ (le→leb (length (padded 4096 (x .words))) 16384 (omega arith))
     (le→leb (length (x .words)) (length (padded 4096 (x .words))) (omega (arith, b .words))))

@@ -17,7 +17,7 @@ use Rattle.theory.specs.Writer.{written}
 use Rattle.theory.specs.File.{File, decoded, claimOf, draftOf, line, counted, refusedLine, provedLines, answerLines, goalLines}
 use Rattle.theory.specs.File.{allLines, printed}
 use Rattle.theory.specs.Owed.{draftAfter}
-use Rattle.theory.proofs.Writes.{part-length, writes-or-12, draft-passes}
+use Rattle.theory.proofs.Writes.{written-front, buffer-length, writes-or-12, draft-passes}
 use Rattle.theory.proofs.FileRead.{file-bounded, file-sizes}
 use Rattle.theory.proofs.Faults.{refused-says}
 use Rattle.theory.proofs.Called.{is-refused, proves}
@@ -87,7 +87,7 @@ answer-length : (x : File) (a : After) (o : Outcome) → length (answerLines x a
 unfolding answerLines draftOf bytes
 answer-length x a (proved r n u f t) =
     proved-length n u f t (written (draftOf x a r f t))
-    (le-trans (part-length (draftOf x a r f t)) (omega (arith, length-replicate {A = ℕ} 32768 0)))
+    (omega (arith, (written-front (draftOf x a r f t)) .long, buffer-length (draftOf x a r f t), length-replicate {A = ℕ} 32768 0))
 answer-length x a (unprovable n u f t) =
     omega (
       arith,

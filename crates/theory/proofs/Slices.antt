@@ -1,12 +1,11 @@
 -- What the lent slices hold after a call: their lengths, the given words in front, zero above the fills. Assumes nothing.
-use Prim.Native.Nat.{ℕ, zero, suc, _+_, _-_, _*_, _/_, _≤_}
+use Prim.Native.Nat.{ℕ, zero, suc, _*_, _/_, _≤_}
 use mathlib.Core.Path.{_≡_, refl, sym, ap, _∙_, subst}
 use mathlib.Core.Option.{none}
-use mathlib.Core.List.{List, _++_, map}
+use mathlib.Core.List.{List, map}
 use native.Mathlib.Omega.{arith}
 use lib.Dec.{T, leb→le, le→leb}
-use lib.ListN.{length, getD, take, replicate, length-append, length-map, length-replicate}
-use lib.Seq.{take-append-seam, getD-append-add}
+use lib.ListN.{List·getD-eq-default, length, getD, take, replicate, length-map, length-replicate}
 use Rattle.theory.specs.Form.{word}
 use Rattle.theory.specs.NameText.{namesIn, padded}
 use Rattle.theory.specs.Layout.{nodeWidth, inNumbers}
@@ -15,6 +14,7 @@ use Rattle.theory.specs.Meter.{Within, fits, Lack, Steps, found, failed,
 use Rattle.theory.specs.Call.{Claim, refusal, searchLimits, givenWords, givenBook, searched, Outcome, proved, shortage, After}
 use Rattle.theory.specs.Call.{givenBack, unchanged, answered, called}
 use Rattle.theory.specs.Owed.{ZeroAbove, Passes}
+use Rattle.theory.proofs.Fitted.{padded-byte, padded-length, padded-front}
 use Rattle.theory.proofs.Room.{Kept, Bounded, b-found, b-failed, b-short, bounded}
 use Rattle.theory.proofs.LayoutLaws.{in-numbers-length}
 use Rattle.theory.proofs.Passing.{passes}
@@ -23,30 +23,14 @@ use Rattle.theory.proofs.Called.{Proves, Fails, RunsShort, Told, t-prov
 abbrev zeros : ℕ → List ℕ
 zeros n = replicate n 0
 
--- a text with zeros after it
-pub padded-length : (n : ℕ) (xs : List ℕ) → length xs ≤ n → length (padded n xs) ≡ n
-unfolding padded
-padded-length n xs h =
-    let a : length (xs ++ zeros (n - length xs)) ≡ length xs + length (zeros (n - length xs)) =
-    length-append xs (zeros (n - length xs)) in
-    let b : length (zeros (n - length xs)) ≡ n - length xs = length-replicate (n - length xs) 0 in
-    omega arith
-
-pub padded-front : (n : ℕ) (xs : List ℕ) → take (length xs) (padded n xs) ≡ xs
-unfolding padded
-padded-front n xs = take-append-seam xs (zeros (n - length xs))
-
-pub all-zero : (n i : ℕ) → getD (zeros n) i 0 ≡ 0
+-- zero everywhere, and past a text that is padded
+all-zero : (n i : ℕ) → getD (zeros n) i 0 ≡ 0
 all-zero zero i = refl
 all-zero (suc n) zero = refl
 all-zero (suc n) (suc i) = all-zero n i
 
-pub padded-rest : (n : ℕ) (xs : List ℕ) (i : ℕ) → length xs ≤ i → getD (padded n xs) i 0 ≡ 0
-unfolding padded
-padded-rest n xs i h =
-    let p : i ≡ length xs + (i - length xs) = omega arith in
-    ap (λ (k : ℕ). getD (xs ++ zeros (n - length xs)) k 0) p
-    ∙ getD-append-add xs (zeros (n - length xs)) (i - length xs) 0 ∙ all-zero (n - length xs) (i - length xs)
+padded-rest : (xs : List ℕ) (n i : ℕ) → length xs ≤ i → getD (padded n xs) i 0 ≡ 0
+padded-rest xs n i h = padded-byte xs n i ∙ List·getD-eq-default xs 0 h
 
 -- the search of a claim that passes is within its limits
 pub starts-within : (x : Claim) → refusal x ≡ none → Within (searchLimits x) (given (givenBook x))
@@ -136,22 +120,22 @@ module _ (x : Claim) where
   pub front-words : {r n u f t : ℕ} (h : Proves x r n u f t) → take f ((called x) .words) ≡ map word (h .state .words)
   front-words {f} h =
       ap (take f) (proved-words h) ∙ ap (λ (k : ℕ). take k (padded (length (x .words)) (map word (h .state .words)))) (sym (word-count h))
-      ∙ padded-front (length (x .words)) (map word (h .state .words))
+      ∙ padded-front (map word (h .state .words)) (length (x .words))
 
   pub front-terms : {r n u f t : ℕ} (h : Proves x r n u f t) → take (t * nodeWidth) ((called x) .terms) ≡ inNumbers (h .state .nodes)
   front-terms {t} h =
       ap (take (t * nodeWidth)) (proved-terms h)
       ∙ ap (λ (k : ℕ). take k (padded (length (x .terms)) (inNumbers (h .state .nodes)))) (sym (number-count h))
-      ∙ padded-front (length (x .terms)) (inNumbers (h .state .nodes))
+      ∙ padded-front (inNumbers (h .state .nodes)) (length (x .terms))
 
   -- the rest is zero, and every record
   pub proved-clear : {r n u f t : ℕ} → Proves x r n u f t → ZeroAbove (called x) f t
   unfolding answered
   proved-clear h = record {
     words = λ i l. ap (λ (ws : List ℕ). getD ws i 0) (proved-words h)
-        ∙ padded-rest (length (x .words)) (map word (h .state .words)) i (omega (arith, word-count h));
+        ∙ padded-rest (map word (h .state .words)) (length (x .words)) i (omega (arith, word-count h));
     terms = λ i l. ap (λ (ws : List ℕ). getD ws i 0) (proved-terms h)
-        ∙ padded-rest (length (x .terms)) (inNumbers (h .state .nodes)) i (omega (arith, number-count h));
+        ∙ padded-rest (inNumbers (h .state .nodes)) (length (x .terms)) i (omega (arith, number-count h));
     records = ap (λ (a : After). a .cleared) (h .after);
   }
 
@@ -168,7 +152,7 @@ module _ (x : Claim) where
   unfolding givenBack
   back-clear p o e = record {
     words = λ i l. ap (λ (ws : List ℕ). getD ws i 0) (back-words o e)
-        ∙ padded-rest (length (x .words)) (givenWords x) i (omega (arith, (passes x p) .counted));
+        ∙ padded-rest (givenWords x) (length (x .words)) i (omega (arith, (passes x p) .counted));
     terms = λ i l. ap (λ (ws : List ℕ). getD ws i 0) (back-terms o e) ∙ all-zero (length (x .terms)) i;
     records = ap (λ (a : After). a .cleared) e;
   }
@@ -178,7 +162,7 @@ module _ (x : Claim) where
   back-front p o e =
       ap (take (x .count)) (back-words o e)
       ∙ ap (λ (k : ℕ). take k (padded (length (x .words)) (givenWords x))) (sym ((passes x p) .counted))
-      ∙ padded-front (length (x .words)) (givenWords x)
+      ∙ padded-front (givenWords x) (length (x .words))
 
   -- no slice changes its length
   pub lengths : (length ((called x) .words) ≡ length (x .words)) × (length ((called x) .terms) ≡ length (x .terms))
@@ -188,16 +172,16 @@ module _ (x : Claim) where
       back : refusal x ≡ none → (o : Outcome) → called x ≡ givenBack x o →
           (length ((called x) .words) ≡ length (x .words)) × (length ((called x) .terms) ≡ length (x .terms))
       back p o e = (
-        ap length (back-words o e) ∙ padded-length (length (x .words)) (givenWords x)
+        ap length (back-words o e) ∙ padded-length (givenWords x) (length (x .words))
             (omega (arith, (passes x p) .counted, (passes x p) .given)),
         ap length (back-terms o e) ∙ length-replicate (length (x .terms)) 0,
       )
 
       go : {o : Outcome} → Told x o → (length ((called x) .words) ≡ length (x .words)) × (length ((called x) .terms) ≡ length (x .terms))
       go (t-proved h) = (
-        ap length (proved-words h) ∙ padded-length (length (x .words)) (map word (h .state .words))
+        ap length (proved-words h) ∙ padded-length (map word (h .state .words)) (length (x .words))
             (omega (arith, word-count h, (proved-within h) .formulas)),
-        ap length (proved-terms h) ∙ padded-length (length (x .terms)) (inNumbers (h .state .nodes))
+        ap length (proved-terms h) ∙ padded-length (inNumbers (h .state .nodes)) (length (x .terms))
             (omega (arith, number-count h, (proved-within h) .terms)),
       )
       go (t-unprovable h) = back (h .passed) _ (h .after)

@@ -26,7 +26,7 @@ use Rattle.theory.proofs.Words.{shape-word, words-pass, passes-append}
 use Rattle.theory.proofs.Forms.{snoc-length, ext-by, At, at-ext, at-form, at-new, good-more, imp-new}
 use Rattle.theory.proofs.Passing.{not-both, none-or, none-fault, none-unless, term-part, work-part, passes}
 use Rattle.theory.proofs.Called.{Proves, Fails, Told, t-proved, t-unprovable, t-shortage, t-refused, told, is-refused, refused-call}
-use Rattle.theory.proofs.Slices.{padded-length}
+use Rattle.theory.proofs.Fitted.{padded-length}
 use Rattle.theory.proofs.Outcomes.{proved-derives, failed-none}
 
 module _ (x : Inquiry) (e : refusal (firstClaim x) ≡ none) (room : x .count + 2 ≤ length (x .words)) where
@@ -245,7 +245,7 @@ module _ (x : Inquiry) where
           (length ((asked x) .words) ≡ length (x .words)) × (length ((asked x) .terms) ≡ length (x .terms))
       go none e = (
         ap (λ (a : Asked). length (a .words)) (asked-cleaned e)
-            ∙ padded-length (length (x .words)) (take (x .count) (x .words)) (omega (arith, length-take (x .count) (x .words))),
+            ∙ padded-length (take (x .count) (x .words)) (length (x .words)) (omega (arith, length-take (x .count) (x .words))),
         ap (λ (a : Asked). length (a .terms)) (asked-cleaned e) ∙ length-replicate (length (x .terms)) 0,
       )
       go (some r) e = (ap (λ (a : Asked). length (a .words)) (asked-refused e), ap (λ (a : Asked). length (a .terms)) (asked-refused e))

@@ -20,14 +20,14 @@ use Rattle.theory.specs.Writer.{termDepth, Draft, writerRefusal, drafted
 use Rattle.theory.specs.Call.{Claim, called}
 use Rattle.theory.specs.Owed.{draftAfter, Passes}
 use Rattle.theory.proofs.Tests.{and-T}
+use Rattle.theory.proofs.Fitted.{Front, whole, whole-front, emptied-front, padded-length}
 use Rattle.theory.proofs.Passing.{none-or, none-fault, none-unless, few-enough, term-part, passes}
 use Rattle.theory.proofs.Called.{Proves}
-use Rattle.theory.proofs.Slices.{padded-length, ProvedWithin, proved-within, lengths}
+use Rattle.theory.proofs.Slices.{ProvedWithin, proved-within, lengths}
 use Rattle.theory.proofs.Returned.{words-pass, nodes-pass}
 
 -- a text that fits is written, and zeros after it
-text-fits : (text : List ℕ) (room : ℕ) → length text ≤ room →
-    fitted text room ≡ record { number = 0; place = 0; part = text; buffer = padded room text }
+text-fits : (text : List ℕ) (room : ℕ) → length text ≤ room → fitted text room ≡ whole text room
 unfolding fitted
 text-fits text room h = rw (le-leb (length text) room h, fitted)
 
@@ -93,7 +93,7 @@ fitted-length text room = go (leb (length text) room) refl
       | true ↦ record { number = 0; place = 0; part = text; buffer = padded room text }
       | false ↦ record { number = 12; place = 0; part = []; buffer = replicate room 0 }
     ]) .buffer) ≡ room
-    go true e = padded-length room text (leb-true (length text) room e)
+    go true e = padded-length text room (leb-true (length text) room e)
     go false e = length-replicate room 0
 
 pub name-length : (i room : ℕ) → length ((nameAlone i room) .buffer) ≡ room
@@ -120,33 +120,29 @@ buffer-length x = start (writerRefusal x) refl
     start none e = ap (λ (w : Written). length (w .buffer)) (passed-draft x e) ∙ text (leb (termDepth (drafted x)) 1024)
     start (some r) e = ap (λ (w : Written). length (w .buffer)) (refused-draft x e)
 
--- the written part is no longer than the buffer
-fitted-part : (text : List ℕ) (room : ℕ) → length ((fitted text room) .part) ≤ room
-unfolding fitted emptied
-fitted-part text room = go (leb (length text) room) refl
+-- the written part is the front of the buffer
+fitted-front : (text : List ℕ) (room : ℕ) → Front (fitted text room)
+unfolding fitted
+fitted-front text room = go (leb (length text) room) refl
   where
-    go : (b : Bool) → leb (length text) room ≡ b → length ((elim b as (λ z. Written) [
-      | true ↦ record { number = 0; place = 0; part = text; buffer = padded room text }
-      | false ↦ record { number = 12; place = 0; part = []; buffer = replicate room 0 }
-    ]) .part) ≤ room
-    go true e = leb-true (length text) room e
-    go false e = omega arith
+    go : (b : Bool) → leb (length text) room ≡ b → Front (elim b as (λ z. Written) [ true ↦ whole text room | false ↦ emptied 12 room ])
+    go true e = whole-front text room (leb-true (length text) room e)
+    go false e = emptied-front 12 room
 
-pub part-length : (x : Draft) → length ((written x) .part) ≤ length (x .buffer)
-unfolding textFitted notWritten emptied
-part-length x = start (writerRefusal x) refl
+pub written-front : (x : Draft) → Front (written x)
+unfolding textFitted notWritten
+written-front x = start (writerRefusal x) refl
   where
-    text : (b : Bool) → length ((elim b as (λ z. Written) [
+    text : (b : Bool) → Front (elim b as (λ z. Written) [
       | true ↦ fitted (termText (namesIn (x .text)) (drafted x)) (length (x .buffer))
       | false ↦ emptied 12 (length (x .buffer))
-    ]) .part) ≤ length (x .buffer)
-    text true = fitted-part (termText (namesIn (x .text)) (drafted x)) (length (x .buffer))
-    text false = omega arith
+    ])
+    text true = fitted-front (termText (namesIn (x .text)) (drafted x)) (length (x .buffer))
+    text false = emptied-front 12 (length (x .buffer))
 
-    start : (o : Option Refused) → writerRefusal x ≡ o → length ((written x) .part) ≤ length (x .buffer)
-    start none e = subst (λ (w : Written). length (w .part) ≤ length (x .buffer)) (sym (passed-draft x e))
-        (text (leb (termDepth (drafted x)) 1024))
-    start (some r) e = subst (λ (w : Written). length (w .part) ≤ length (x .buffer)) (sym (refused-draft x e)) (omega arith)
+    start : (o : Option Refused) → writerRefusal x ≡ o → Front (written x)
+    start none e = subst Front (sym (passed-draft x e)) (text (leb (termDepth (drafted x)) 1024))
+    start (some r) e = subst Front (sym (refused-draft x e)) (record { long = omega arith; front = refl })
 
 -- what a proved call leaves is refused by none of the writer's tests
 pub draft-passes : (x : Claim) {r n u f t : ℕ} → Proves x r n u f t → (buffer : List ℕ) → writerRefusal (draftAfter x r f t buffer) ≡ none
