@@ -1,7 +1,9 @@
 // The boundaries of the leaves: what each function answers just inside and just outside of every rule.
+mod nodes;
 mod show;
 mod words;
 
 fn main() {
     words::all();
+    nodes::all();
 }
