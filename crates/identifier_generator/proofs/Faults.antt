@@ -2,19 +2,19 @@
 use Prim.Native.Nat.{ℕ, suc, _+_, _-_, _≤_, _<_}
 use mathlib.Core.Path.{_≡_, refl, sym, ap, ap₂, _∙_}
 use mathlib.Core.Bool.{Bool, true, false, _&&_, not}
-use mathlib.Core.Option.{Option, none, some}
+use mathlib.Core.Option.{none, some}
 use mathlib.Core.List.{List, [], _∷_, _++_}
 use native.Mathlib.Numerals.{add-one}
 use native.Mathlib.Omega.{arith}
 use lib.ListN.{length, take, drop, length-drop, drop-of-length-le}
-use lib.Seq.{take-all, take-add, drop-drop, take-append-seam}
+use lib.Seq.{take-add, take-append-seam}
 use Rattle.theory.specs.Names.{among}
 use Rattle.theory.specs.NameText.{cutEntry, entriesUpTo, namesIn, wellSpelled, lawfulAfter, badNameFrom, badName}
 use Rattle.theory.proofs.Forms.{snoc-length}
 use Rattle.theory.proofs.Entries.{cut-splits, skipped-found, skipped-free}
 use Rattle.theory.proofs.LawfulNames.{joined, names-joined, joined-snoc, bad-cut, bad-unlawful, bad-later}
 use Rattle.identifier_generator.specs.Entry.{entrySize}
-use Rattle.identifier_generator.proofs.Sizes.{no-entry, size-within, first-entry, size-of}
+use Rattle.identifier_generator.proofs.Cursor.{none-at, end-inside, bytesAt, entry-at, size-at}
 
 -- a name that stands among the earlier ones is not lawful, any other is where it is well spelled
 module _ (earlier : List (List ℕ)) (x : List ℕ) where
@@ -81,36 +81,25 @@ module _ {text : List ℕ} {count at place : ℕ} (p : Passed text count at plac
         let one : count - place ≡ suc (count - (place + 1)) = omega (arith, p .within) in
         p .onward ∙ ap (λ (k : ℕ). badNameFrom (namesIn (take at text)) k (drop at text)) one
 
-    rest-is : take (length text - at) (drop at text) ≡ drop at text
-    rest-is = take-all (length text - at) (drop at text) (omega (arith, length-drop at text))
-
     pub cut-fault : 0 ≡ entrySize (take (length text - at) (drop at text)) → some place ≡ badName count text
     cut-fault e =
         sym (onward-next
-        ∙ bad-cut (namesIn (take at text)) (count - (place + 1)) (drop at text) (no-entry (drop at text) (e ∙ ap entrySize rest-is))
+        ∙ bad-cut (namesIn (take at text)) (count - (place + 1)) (drop at text) (none-at text at e)
         ∙ ap some (p .placed))
 
     module _ (s : ℕ) (e : s ≡ entrySize (take (length text - at) (drop at text))) (h : s ≡ 0 → ⊥) where
-      pub end-inside : at + s ≤ length text
-      end-inside = omega (arith, p .inside, size-within (take (length text - at) (drop at text)), ap length rest-is, length-drop at text)
-
-      -- the bytes after the length byte
-      abbrev pub nextName : List ℕ
-      nextName = take (at + s - (at + 1)) (drop (at + 1) text)
+      abbrev nextName : List ℕ
+      nextName = bytesAt text at s
 
       cut-is : cutEntry (drop at text) ≡ some (nextName, drop (at + s) text)
-      cut-is =
-          let back : s - 1 ≡ at + s - (at + 1) = omega arith in
-          first-entry (drop at text) s (e ∙ ap entrySize rest-is) h
-          ∙ ap₂ {C = Option (List ℕ × List ℕ)} (λ u v. some (u, v)) (ap₂ take back (drop-drop 1 at text)) (drop-drop s at text)
+      cut-is = entry-at text at s e h
 
       -- the front grows by the entry
       front-more : take (at + s) text ≡ take at text ++ (length nextName ∷ nextName)
       front-more =
-          let size : s ≡ suc (length nextName) = e ∙ ap entrySize rest-is ∙ size-of (drop at text) (nextName, drop (at + s) text) cut-is in
           take-add at s text
           ∙ ap (λ (t : List ℕ). take at text ++ t)
-          (ap₂ take size (cut-splits (drop at text) (nextName, drop (at + s) text) cut-is)
+          (ap₂ take (size-at text at s e h) (cut-splits (drop at text) (nextName, drop (at + s) text) cut-is)
           ∙ ap {B = List ℕ} (λ t. length nextName ∷ t) (take-append-seam nextName (drop (at + s) text)))
 
       names-more : namesIn (take (at + s) text) ≡ namesIn (take at text) ++ (nextName ∷ [])
@@ -129,7 +118,7 @@ module _ {text : List ℕ} {count at place : ℕ} (p : Passed text count at plac
       pub one-more : true ≡ lawfulAfter (namesIn (take at text)) nextName → Passed text count (at + s) (place + 1)
       one-more f =
           record {
-            inside = end-inside;
+            inside = end-inside text at s e (p .inside);
             within = omega arith;
             whole = ap joined names-more ∙ joined-snoc (namesIn (take at text)) nextName
                 ∙ ap (λ (t : List ℕ). t ++ (length nextName ∷ nextName)) (p .whole) ∙ sym front-more;

@@ -7,7 +7,7 @@ use lib.ListN.{length, take, replicate}
 use lib.Seq.{length-take-le}
 use Rattle.theory.specs.NameText.{padded, Written, emptied}
 use Rattle.theory.proofs.Fitted.{Front, whole}
-use Rattle.identifier_generator.specs.Handed.{Hands, HandsPart}
+use Rattle.identifier_generator.specs.Handed.{Hands}
 
 -- a refusal hands back nothing but its number and a buffer of zeros
 pub hands-nothing : (number room : ℕ) {buffer : List ℕ} {w : Written} → w ≡ emptied number room → buffer ≡ replicate room 0 →
@@ -24,8 +24,8 @@ hands-text text room {size} {buffer} e l z =
 
 module _ {w : Written} {size number : ℕ} {buffer : List ℕ} (f : Front w) (h : Hands w size number buffer) where
   -- the front of that size is the written part
-  pub hands-part : HandsPart w (take size buffer) number
-  hands-part = record { part-is = ap₂ take (h .size-is) (h .buffer-is) ∙ f .front; number-is = h .number-is }
+  pub front-is-part : take size buffer ≡ w .part
+  front-is-part = ap₂ take (h .size-is) (h .buffer-is) ∙ f .front
 
   pub part-inside : size ≡ length (take size buffer)
   part-inside =

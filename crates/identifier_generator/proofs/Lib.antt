@@ -2,6 +2,8 @@ pub mod Powers
 pub mod Sizes
 pub mod Passing
 pub mod Bytes
+pub mod Cursor
+pub mod EntryPlaces
 pub mod Faults
 pub mod Filling
 pub mod Handing

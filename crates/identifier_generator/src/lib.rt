@@ -1,11 +1,10 @@
 // Generated names and the names of assumptions: `identifier_generator.rs` of the Rust, over lent bytes.
 ghost use Prim.Native.Nat.{_/_, _%_, _^_, _≤_};
 ghost use mathlib.Core.Path.{_≡_};
-ghost use mathlib.Core.List.{[]};
 ghost use lib.ListN.{length, getD, replicate};
 ghost use Rattle.theory.specs.Names.{spell, same, among, skipped, fresh};
-ghost use Rattle.theory.specs.NameText.{namesIn, between, nameByte, wellSpelled, lawfulAfter, badName, lookup, padded, nameAlone};
-ghost use Rattle.identifier_generator.specs.Entry.{entrySize};
+ghost use Rattle.theory.specs.NameText.{namesIn, between, nameByte, wellSpelled, lawfulAfter, badName, padded, nameAlone};
+ghost use Rattle.identifier_generator.specs.Entry.{entrySize, entryFrom, EntryPart, NamePart};
 ghost use Rattle.identifier_generator.specs.Places.{placeOf};
 ghost use Rattle.identifier_generator.specs.Handed.{Hands, HandsPart};
 
@@ -225,33 +224,51 @@ pub fn bad_name(text: &[u8], count: usize) -> Fault
     Fault::Nowhere
 }
 
-// Entry `k` of `text`; the empty front of `assumed` where it is cut or missing.
-fn entry<'a>(text: &'a [u8], k: usize, assumed: &'a [u8]) -> &'a [u8]
-    ensures { λ r. ⌜ now r ≡ getD (namesIn (now (text .entry))) k [] ⌝ }
+// Where an entry of a text stands: its bytes from `start` to `end`.
+pub enum Entry {
+    Held { start: usize, end: usize },
+    Missing,
+}
+
+// Where entry `k` of `text` stands, if no entry up to it is cut or missing.
+fn find_entry(text: &[u8], k: usize) -> Entry
+    ensures { λ r. ⌜ r ≡ entryFrom 0 k (now (text .entry)) ⌝ }
 {
-    let mut rest = text;
+    let mut at = 0;
     let mut left = k;
     loop {
-        let size = entry_size(rest);
+        let size = entry_size(&text[at..]);
         if size == 0 {
-            return &assumed[..0];
+            return Entry::Missing;
         }
+        let start = at + 1;
+        let end = at + size;
         if left == 0 {
-            return &rest[1..size];
+            return Entry::Held { start, end };
         }
-        rest = &rest[size..];
+        at = end;
         left -= 1;
+    }
+}
+
+// Entry `k` of `text` as a part of it; the empty front of `assumed` where it is cut or missing.
+fn entry_part<'a>(text: &'a [u8], k: usize, assumed: &'a [u8]) -> &'a [u8]
+    ensures { λ r. ⌜ EntryPart (text .entry) k (assumed .entry) r ⌝ }
+{
+    match find_entry(text, k) {
+        Entry::Held { start, end } => &text[start..end],
+        Entry::Missing => &assumed[..0],
     }
 }
 
 // The bytes of name `x`, as a part of the text that holds it.
 pub fn name<'a>(assumed: &'a [u8], generated: &'a [u8], x: usize) -> &'a [u8]
-    ensures { λ r. ⌜ now r ≡ lookup (now (assumed .entry)) (now (generated .entry)) x ⌝ }
+    ensures { λ r. ⌜ NamePart (assumed .entry) (generated .entry) x r ⌝ }
 {
     if x < 64 {
-        return entry(assumed, x, assumed);
+        return entry_part(assumed, x, assumed);
     }
-    entry(generated, x - 64, assumed)
+    entry_part(generated, x - 64, assumed)
 }
 
 fn clear(buf: &mut [u8])
@@ -298,7 +315,7 @@ pub fn write_alone(i: usize, buf: &mut [u8], number: &mut usize) -> usize
 
 // The name of index `i` asked for alone, as the front part of the buffer that `write_alone` fills.
 pub fn name_alone<'a>(i: usize, buf: &'a mut [u8], number: &mut usize) -> &'a mut [u8]
-    ensures { λ r. ⌜ HandsPart (nameAlone i (length (now (buf .entry)))) (now r) (now (number .exit)) ⌝ }
+    ensures { λ r. ⌜ HandsPart (nameAlone i (length (now (buf .entry)))) (buf .entry) r (now (number .exit)) ⌝ }
 {
     let n = write_alone(i, buf, number);
     &mut buf[..n]

@@ -7,7 +7,8 @@ use lib.ListN.{length}
 use lib.Seq.{length-take-le}
 use denote.Ref.{now}
 use Rattle.identifier_generator.proofs.Faults.{Passed, none-passed, surplus, all-passed}
-use Rattle.identifier_generator.proofs.Faults.{cut-fault, end-inside, unlawful-fault, one-more}
+use Rattle.identifier_generator.proofs.Faults.{cut-fault, unlawful-fault, one-more}
+use Rattle.identifier_generator.proofs.Cursor.{end-inside}
 use Rattle.identifier_generator.proofs.bad_name.Statement.{statement}
 use Rattle.identifier_generator.proofs.bad_name.Tie as tie
 
@@ -40,8 +41,9 @@ ends : (c : tie.Else1 Inv-loop μ-loop) →
     c .before .before .before .before .loop .at + c .before .entry-size .result ≤
     length (now (c .before .before .before .before .before .before .args .text))
 ends c =
+    let at = c .before .before .before .before in
     let sized = c .before .entry-size in
-    end-inside (c .before .before .before .before .loop .inv) (omega arith) (sized .result) (sized .ensures) (c .if1 .left)
+    end-inside (now (at .before .before .args .text)) (at .loop .at) (sized .result) (sized .ensures) (at .loop .inv .inside)
 
 add-start : tie.Need-add-start Inv-loop μ-loop
 add-start c = omega (arith, ends c)

@@ -1,9 +1,10 @@
 -- `name_alone` hands the written front back. Assumes nothing.
 use borrow.Author.Needs.{needs}
+use mathlib.Core.Path.{refl}
 use lib.ListN.{length}
 use denote.Ref.{now}
 use Rattle.theory.proofs.Fitted.{alone-front}
-use Rattle.identifier_generator.proofs.Handing.{hands-part, part-inside}
+use Rattle.identifier_generator.proofs.Handing.{front-is-part, part-inside}
 use Rattle.identifier_generator.proofs.name_alone.Statement.{statement}
 use Rattle.identifier_generator.proofs.name_alone.Tie as tie
 
@@ -18,7 +19,12 @@ slice-aggregate-result c =
 returns : tie.Need-returns
 returns c =
     let args = c .before .before .before .before .before .before .before .args in
-    hands-part (alone-front (args .i) (length (now (args .buf)))) (c .before .before .before .write-alone .ensures)
+    let written = c .before .before .before .write-alone .ensures in
+    record {
+      front-is = refl;
+      part-is = front-is-part (alone-front (args .i) (length (now (args .buf)))) written;
+      number-is = written .number-is;
+    }
 
 pub name-alone-spec : {M : Type 1} → statement M
 name-alone-spec = tie.close (tie.spec write-alone-requires slice-aggregate-result returns)
