@@ -8,6 +8,9 @@ ghost use Rattle.identifier_generator.specs.Entry.{entrySize, entryFrom,
 ghost use Rattle.identifier_generator.specs.Places.{placeOf};
 ghost use Rattle.identifier_generator.specs.Handed.{Hands, HandsPart};
 
+// Generated indices are at most this.
+const LAST_INDEX: usize = 4095;
+
 // How many letters index `i` has.
 pub fn letter_count(i: usize) -> usize
     ensures { λ r. ⌜ r ≡ length (spell i) ⌝ }
@@ -293,11 +296,12 @@ fn spell_into(i: usize, buf: &mut [u8])
     }
 }
 
-// Writes the name of index `i` asked for alone, and returns how many bytes it has. Sets `number` to 0, or to 7 or 12 where the buffer is left zero.
+// Writes the name of index `i` asked for alone and returns how many bytes it has.
+// Sets `number` to 0, or to the refusal's number; the buffer is zero then.
 pub fn write_alone(i: usize, buf: &mut [u8], number: &mut usize) -> usize
     ensures { λ r. ⌜ Hands (nameAlone i (length (now (buf .entry)))) r (now (number .exit)) (now (buf .exit)) ⌝ }
 {
-    if 4095 < i {
+    if LAST_INDEX < i {
         clear(buf);
         *number = 7;
         return 0;
