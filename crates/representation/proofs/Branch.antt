@@ -1,7 +1,7 @@
 -- The parts that rules are made of: a charge, then a premise, a try or the last node. Each law takes what the code did and what its calls
 -- mean, and says what the part means. Assumes nothing.
 use Prim.Native.Nat.{ℕ, _+_, _≤_, _<_}
-use mathlib.Core.Path.{_≡_, refl, sym, ap, ap₂, _∙_}
+use mathlib.Core.Path.{_≡_, refl, ap₂}
 use mathlib.Core.List.{List, []}
 use native.Mathlib.Omega.{arith}
 use lib.ListN.{length}
@@ -20,15 +20,15 @@ use Rattle.context.specs.declared.Answer.{Answer}
 use Rattle.context.specs.declared.Answer.the-variants.{Found, Failed, Short}
 use Rattle.context.specs.Moves.{returned, limitsOf}
 use Rattle.representation.specs.Reading.{Lent, lent, seqOf, Shows}
-use Rattle.representation.specs.Keeping.{Laid, Rep, Within, Frame, Kept, stateOf}
+use Rattle.representation.specs.Keeping.{Laid, Rep, Within, Frame, Kept}
 use Rattle.representation.specs.Meaning.{Comes, asks, Meets, Goes, Gives}
 use Rattle.representation.specs.Closing.{Closes}
+use Rattle.representation.specs.Making.{Made, Tested}
 use Rattle.representation.proofs.Same.{frame-refl, frame-less, frame-trans, rooms-after, laid-same, seats-same}
 use Rattle.representation.proofs.Seat.{seats-more, seats-own}
 use Rattle.representation.proofs.Combine.{Lost, comes-as, premise, then-lost, then-found, try-short, try-found, try-failed, kept-on}
-use Rattle.representation.proofs.Combine.{kept-lost}
-use Rattle.representation.proofs.Charge.{Tested, charge-ok, charge-short}
-use Rattle.representation.proofs.Making.{Made, shows-after, close-comes, close-kept}
+use Rattle.representation.proofs.Charge.{charge-ok, charge-short}
+use Rattle.representation.proofs.Making.{shows-after, close-comes, close-kept}
 
 -- the same part, written in another way for each state that the lists show
 pub gives-as : {m : Limits} {x y : Lent} {s : State} {q : Sequent} {r : Answer} (C : ℕ → M.State → M.Answer) {C1 : ℕ → M.State → M.Answer} →

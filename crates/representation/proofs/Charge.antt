@@ -1,5 +1,5 @@
 -- Theory's charges under the code's limits. Assumes nothing.
-use Prim.Native.Nat.{ℕ, _+_, _≤_}
+use Prim.Native.Nat.{ℕ, _+_}
 use mathlib.Core.Path.{_≡_, refl, sym, ap, ap₂, _∙_}
 use mathlib.Core.Bool.{Bool, true, false}
 use mathlib.Core.Option.{Option, none, some}
@@ -21,6 +21,7 @@ use Rattle.context.specs.declared.Answer.the-variants.{Short}
 use Rattle.context.specs.Moves.{stretch, most, limitsOf, numberOf}
 use Rattle.representation.specs.Reading.{Lent, book, Shows}
 use Rattle.representation.specs.Meaning.{says-short, Comes}
+use Rattle.representation.specs.Making.{Passes, Tested}
 use Rattle.representation.proofs.Tables.{upto-length}
 use Rattle.representation.proofs.Combine.{comes-now}
 
@@ -47,18 +48,7 @@ unfolding numberOf
 number-none none e z = refl
 number-none (some l) e z = absurd (lack-some l (sym e ∙ z))
 
--- the code's test of a charge gave n
-pub record Tested (m : Limits) (n u f t c l : ℕ) : Type 0 where
-  pub is : n ≡ numberOf (lacking (limitsOf m) u f t c l)
-
--- what a charge that passes no limit shows
-pub record Passes (m : Limits) (u f t c l : ℕ) : Type 0 where
-  pub indices : u ≤ most
-  pub formulas : f ≤ m .formulas
-  pub terms : t ≤ m .terms
-  pub contexts : c ≤ stretch
-  pub levels : l ≤ m .levels
-
+-- the tests one by one
 lackIn : Bool → Bool → Bool → Bool → Bool → Option M.Lack
 lackIn a b c d e =
     elim a [

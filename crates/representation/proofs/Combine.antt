@@ -1,29 +1,22 @@
 -- What an answer means goes through a premise, a try, an entry and the end of a rule. Assumes nothing.
 use Prim.Native.Nat.{ℕ, zero, suc, _+_, _≤_, _<_}
-use mathlib.Core.Path.{_≡_, refl, sym, ap, ap₂, _∙_, subst}
-use mathlib.Core.Bool.{Bool, true, false}
-use mathlib.Core.Option.{Option, none, some}
-use mathlib.Core.List.{List, [], _∷_, _++_}
+use mathlib.Core.Path.{_≡_, refl, ap, ap₂, _∙_, subst}
+use mathlib.Core.List.{List}
 use native.Mathlib.Omega.{arith}
 use native.Mathlib.Nat.{not-suc-le-zero, le-of-suc-le-suc}
-use native.Mathlib.Numerals.{add-one}
-use lib.ListN.{length}
-use lib.Dec.{leb}
 use borrow.Author.Tests.{le-leb, lt-leb}
-use Rattle.theory.specs.Form.{Book}
-use Rattle.theory.specs.Term.{Node}
 use Rattle.theory.specs.World.{Tree}
 use Rattle.theory.specs.Refusal.{lackNumber}
 use Rattle.theory.specs.Meter as M
-use Rattle.theory.specs.Meter.{limited, andThen, attempt, charge, lacking, enter, fits, count}
+use Rattle.theory.specs.Meter.{limited, andThen, attempt, enter, fits}
 use Rattle.theory.specs.Search.{rule, run}
-use Rattle.theory.proofs.Charges.{made, restart}
+use Rattle.theory.proofs.Charges.{restart}
 use Rattle.context.specs.declared.State.{State}
 use Rattle.context.specs.declared.Sequent.{Sequent}
 use Rattle.context.specs.declared.Limits.{Limits}
 use Rattle.context.specs.declared.Answer.{Answer}
 use Rattle.context.specs.declared.Answer.the-variants.{Found, Failed, Short}
-use Rattle.context.specs.Moves.{stepped, limitsOf, numberOf}
+use Rattle.context.specs.Moves.{stepped, limitsOf}
 use Rattle.representation.specs.Reading.{Lent, seqOf, Shows}
 use Rattle.representation.specs.Keeping.{Within, Frame, Kept, After, stateOf}
 use Rattle.representation.specs.Meaning.{Says, says-found, says-failed, says-short, Comes, asks, Meets, Goes}

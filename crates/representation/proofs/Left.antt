@@ -1,11 +1,11 @@
 -- The ways through left that make one turn: what is dropped, what ends, what goes to the unordered context, and And. Assumes nothing.
 use Prim.Native.Nat.{ℕ, zero, suc, _+_, _-_, _*_, _<_, _≤_}
-use mathlib.Core.Path.{_≡_, refl, sym, ap, ap₂, _∙_, subst}
+use mathlib.Core.Path.{_≡_, refl, ap, _∙_, subst}
 use mathlib.Core.List.{List, [], _∷_, _++_}
 use native.Mathlib.Omega.{arith}
 use native.Mathlib.Numerals.{add-one}
-use lib.ListN.{length, set}
-use Rattle.theory.specs.Form.{Shape, isTop, isBot, isAnd, shapeOf}
+use lib.ListN.{set}
+use Rattle.theory.specs.Form.{Shape, isAnd, shapeOf}
 use Rattle.theory.specs.Term.{by, fst, snd, abort, leftFalse, leftAnd}
 use Rattle.theory.specs.Meter as M
 use Rattle.theory.specs.Meter.{limited, count, charge}
@@ -22,12 +22,13 @@ use Rattle.representation.specs.Reading.{Lent, lent, kindAt, leftAt, rig
 use Rattle.representation.specs.Keeping.{Inside, Rep}
 use Rattle.representation.specs.Meaning.{asks, Meets, Goes}
 use Rattle.representation.specs.Closing.{Closes}
+use Rattle.representation.specs.Making.{Made, Moved, Tested}
 use Rattle.representation.proofs.Seat.{unordered-length, ordered-length, ordered-pop, top-in}
 use Rattle.representation.proofs.Areas.{fields, Area, area-start, area-pop, area-push, area-append}
 use Rattle.representation.proofs.Write.{words-none}
-use Rattle.representation.proofs.Charge.{Tested, passes}
-use Rattle.representation.proofs.Making.{Made, made-of, count-seq}
-use Rattle.representation.proofs.Moving.{Moved, moved-of, gives-moved}
+use Rattle.representation.proofs.Charge.{passes}
+use Rattle.representation.proofs.Making.{made-of}
+use Rattle.representation.proofs.Moving.{moved-of, gives-moved}
 use Rattle.representation.proofs.Branch.{goes-by, gives-asked, gives-close, gives-short, gives-on}
 use Rattle.representation.proofs.Look.{shape-as, look-at, children, fits16}
 

@@ -18,3 +18,5 @@ pub mod Leaf
 pub mod PutApart
 pub mod Fires
 pub mod Firing
+pub mod LeftImpl
+pub mod LeftNew

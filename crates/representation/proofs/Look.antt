@@ -1,7 +1,7 @@
 -- What the words say: shapes by their kinds, children below, and what theory's book has at an index. And the nodes that 16 bits hold.
 -- Assumes nothing.
-use Prim.Native.Nat.{ℕ, suc, _+_, _<_, _≤_}
-use mathlib.Core.Path.{_≡_, refl, sym, ap, ap₂, _∙_, subst}
+use Prim.Native.Nat.{ℕ, _+_, _<_}
+use mathlib.Core.Path.{_≡_, ap, ap₂, _∙_, subst}
 use mathlib.Core.List.{List}
 use native.Mathlib.Omega.{arith}
 use lib.ListN.{length, getD, take}
@@ -17,7 +17,7 @@ use Rattle.context.specs.declared.Sequent.{Sequent}
 use Rattle.context.specs.declared.Limits.{Limits}
 use Rattle.context.specs.Moves.{spent}
 use Rattle.representation.specs.Reading.{Lent, kindAt, leftAt, rightAt, shapeAt, book, Shows}
-use Rattle.representation.specs.Keeping.{Laid, Rep}
+use Rattle.representation.specs.Keeping.{Rep}
 use Rattle.representation.proofs.Tables.{upto-at}
 
 -- the shape of a word by its kind

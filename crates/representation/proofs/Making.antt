@@ -1,6 +1,6 @@
 -- What the code makes for one charge, taken together: the lists still stand for theory's state and for the sequent that comes next.
 -- And the last node of a rule. Assumes nothing.
-use Prim.Native.Nat.{ℕ, suc, _+_, _*_, _≤_, _<_}
+use Prim.Native.Nat.{ℕ, suc, _+_, _*_, _≤_}
 use mathlib.Core.Path.{_≡_, refl, sym, ap, ap₂, _∙_, subst}
 use mathlib.Core.List.{List, [], _∷_, _++_}
 use native.Mathlib.Omega.{arith}
@@ -13,25 +13,24 @@ use Rattle.theory.specs.Refusal.{lackNumber}
 use Rattle.theory.specs.Meter as M
 use Rattle.theory.specs.Meter.{limited, fits, count, spend}
 use Rattle.theory.specs.Search.{close}
-use Rattle.theory.proofs.Charges.{made}
 use Rattle.proof_term.proofs.NodeLaws.{Fitting}
 use Rattle.context.specs.declared.State.{State}
 use Rattle.context.specs.declared.Sequent.{Sequent}
 use Rattle.context.specs.declared.Limits.{Limits}
 use Rattle.context.specs.declared.Answer.{Answer}
-use Rattle.context.specs.declared.Answer.the-variants.{Found, Short}
-use Rattle.context.specs.Moves.{stretch, most, spent, limitsOf}
-use Rattle.context.specs.Area.{Rec, none}
+use Rattle.context.specs.Moves.{most, spent, limitsOf}
+use Rattle.context.specs.Area.{Rec}
 use Rattle.representation.specs.Reading.{Lent, lent, book, seqOf, Shows, putNodes}
 use Rattle.representation.specs.Keeping.{Laid, Rooms, Within, Rep, Frame, Kept}
 use Rattle.representation.specs.Meaning.{says-found, says-short, Comes}
 use Rattle.representation.specs.Closing.{Closes, closes-short, closes-node}
-use Rattle.representation.proofs.Same.{same-refl, same-less, book-same, take-same, frame-refl, frame-trans, rooms-after}
+use Rattle.representation.specs.Making.{Made}
+use Rattle.representation.proofs.Same.{same-refl, book-same, take-same, frame-trans, rooms-after}
 use Rattle.representation.proofs.Seat.{unordered-length, ordered-length, seats-own}
 use Rattle.representation.proofs.Areas.{Area}
 use Rattle.representation.proofs.Write.{put-same, put-more, AllFit, Words}
 use Rattle.representation.proofs.Combine.{comes-now}
-use Rattle.representation.proofs.Charge.{words-many, Passes}
+use Rattle.representation.proofs.Charge.{words-many}
 
 by-length : (r : Rule) (ps : List Piece) → length (by r ps) ≡ length ps
 by-length r [] = refl
@@ -55,18 +54,6 @@ many-more ns r ps e = length-append ns (by r ps) ∙ omega (arith, by-length r p
 pub count-seq : (w : List Rec) (q : Sequent) → count (seqOf w q) ≡ q .unordered + q .ordered
 unfolding count
 count-seq w q = ap₂ (λ (a b : ℕ). a + b) (unordered-length w (q .level) (q .unordered)) (ordered-length w (q .level) (q .ordered))
-
--- the code has made what one charge pays for: indices up to u, words ws, nodes ns; Q comes next
-pub record Made (m : Limits) (x : Lent) (s : State) (q : Sequent) (u : ℕ) (ws : Book) (ns : List Node) (Q : M.Sequent) (x1 : Lent)
-    (s1 : State) (q1 : Sequent) : Type 0 where
-  pub rep : Rep m x1 s1 q1
-  pub frame : Frame x (s .formulas) (s .terms) (q1 .level) x1
-  pub formulas-up : s .formulas ≤ s1 .formulas
-  pub terms-up : s .terms ≤ s1 .terms
-  pub level-up : q .level ≤ q1 .level
-  pub next : Q ≡ seqOf (x1 .records) q1
-  pub shows : (S : M.State) → Shows x s S → Shows x1 s1 (made S u ws ns)
-  pub room : (S : M.State) → Shows x s S → Passes m u (length (S .words) + length ws) (length (S .nodes) + length ns) (count Q) (Q .level)
 
 -- words, nodes and contexts, each in its own list
 pub made-of : {m : Limits} {x : Lent} {s : State} {q : Sequent} {ws : Book} {f1 t1 : List ℕ} {w1 : List Rec} {s1 : State} {q1 : Sequent}

@@ -1,6 +1,6 @@
 -- A move that no charge pays for: the sequent changes, words and nodes stay. Assumes nothing.
 use Prim.Native.Nat.{ℕ, _≤_}
-use mathlib.Core.Path.{_≡_, refl, sym, ap₂, _∙_}
+use mathlib.Core.Path.{_≡_, sym, ap₂, _∙_}
 use mathlib.Core.List.{List}
 use native.Mathlib.Omega.{arith}
 use Rattle.theory.specs.Meter as M
@@ -9,22 +9,17 @@ use Rattle.context.specs.declared.Sequent.{Sequent}
 use Rattle.context.specs.declared.Limits.{Limits}
 use Rattle.context.specs.declared.Answer.{Answer}
 use Rattle.context.specs.Area.{Rec}
-use Rattle.representation.specs.Reading.{Lent, lent, seqOf, Shows}
+use Rattle.representation.specs.Reading.{Lent, lent}
 use Rattle.representation.specs.Keeping.{Rep, Frame}
 use Rattle.representation.specs.Meaning.{asks, Meets, Gives}
+use Rattle.representation.specs.Making.{Moved}
 use Rattle.representation.proofs.Same.{same-refl, frame-less, rooms-after}
 use Rattle.representation.proofs.Seat.{seats-own}
 use Rattle.representation.proofs.Areas.{Area}
 use Rattle.representation.proofs.Combine.{premise, kept-on}
 use Rattle.representation.proofs.Making.{shows-after}
 
--- the lists hold Q, which comes next at the same state
-pub record Moved (m : Limits) (x : Lent) (s : State) (q : Sequent) (Q : M.Sequent) (x1 : Lent) (q1 : Sequent) : Type 0 where
-  pub rep : Rep m x1 s q1
-  pub frame : Frame x (s .formulas) (s .terms) (q1 .level) x1
-  pub level-up : q .level ≤ q1 .level
-  pub next : Q ≡ seqOf (x1 .records) q1
-
+-- from the area
 pub moved-of : {m : Limits} {x : Lent} {s : State} {q : Sequent} {w1 : List Rec} {q1 : Sequent} {us os : List M.Entry} (Q : M.Sequent) →
     Rep m x s q → Area m (s .formulas) (s .terms) (q1 .level) (x .records) w1 q1 us os → q .level ≤ q1 .level → Q .unordered ≡ us →
     Q .ordered ≡ os → Q .goal ≡ q1 .goal → Q .level ≡ q1 .level → Moved m x s q Q (lent (x .words) (x .numbers) w1) q1

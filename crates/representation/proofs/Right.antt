@@ -1,11 +1,9 @@
 -- The ways through right: True, And with its two premises, and what is left to left. Assumes nothing.
-use Prim.Native.Nat.{ℕ, zero, suc, _+_, _*_, _<_, _≤_}
+use Prim.Native.Nat.{ℕ, zero, suc, _+_, _<_, _≤_}
 use mathlib.Core.Path.{_≡_, refl, sym, ap, ap₂, _∙_, subst}
-use mathlib.Core.List.{List, [], _∷_, _++_}
+use mathlib.Core.List.{List, []}
 use native.Mathlib.Omega.{arith}
 use native.Mathlib.Numerals.{add-one}
-use lib.ListN.{length}
-use lib.Dec.{lit<}
 use Rattle.theory.specs.Form.{Shape, isAnd, shapeOf, rightOf}
 use Rattle.theory.specs.Term.{pair, unit, rightTrue, rightAnd}
 use Rattle.theory.specs.Meter as M
@@ -16,17 +14,18 @@ use Rattle.context.specs.declared.Sequent.{Sequent}
 use Rattle.context.specs.declared.Limits.{Limits}
 use Rattle.context.specs.declared.Answer.{Answer}
 use Rattle.context.specs.declared.Answer.the-variants.{Found, Short}
-use Rattle.context.specs.Moves.{stretch, upped, limitsOf}
+use Rattle.context.specs.Moves.{upped, limitsOf}
 use Rattle.context.specs.Area.{Rec, raised}
 use Rattle.representation.specs.Reading.{Lent, lent, kindAt, leftAt, rightAt, shapeAt, seqOf, Shows, putNodes}
 use Rattle.representation.specs.Keeping.{Rep}
 use Rattle.representation.specs.Meaning.{asks, Meets, Goes, Gives}
 use Rattle.representation.specs.Parts.{andEnd, andSecond}
 use Rattle.representation.specs.Closing.{Closes}
+use Rattle.representation.specs.Making.{Made, Tested}
 use Rattle.representation.proofs.Areas.{area-start, area-up}
 use Rattle.representation.proofs.Write.{words-none}
-use Rattle.representation.proofs.Charge.{Tested, passes}
-use Rattle.representation.proofs.Making.{Made, made-of, count-seq}
+use Rattle.representation.proofs.Charge.{passes}
+use Rattle.representation.proofs.Making.{made-of, count-seq}
 use Rattle.representation.proofs.Branch.{gives-as, goes-by, gives-asked, gives-close}
 use Rattle.representation.proofs.Branch.{gives-short, gives-lost, gives-found, back-found}
 use Rattle.representation.proofs.Combine.{Lost}

@@ -1,10 +1,10 @@
 -- The way of right through an implication: one name, its Ident, pushed; the body a level up; the Function. Assumes nothing.
-use Prim.Native.Nat.{ℕ, suc, _+_, _<_, _≤_}
-use mathlib.Core.Path.{_≡_, refl, sym, ap, ap₂, _∙_, subst}
-use mathlib.Core.List.{List, [], _∷_, _++_}
+use Prim.Native.Nat.{ℕ, _+_, _<_, _≤_}
+use mathlib.Core.Path.{_≡_, refl, sym, ap, _∙_}
+use mathlib.Core.List.{List, [], _∷_}
 use native.Mathlib.Omega.{arith}
 use native.Mathlib.Numerals.{add-one}
-use lib.ListN.{length, set}
+use lib.ListN.{set}
 use Rattle.theory.specs.Form.{isImp, shapeOf}
 use Rattle.theory.specs.Term.{by, ident, fn, rightImpl}
 use Rattle.theory.specs.Names.{fresh}
@@ -16,17 +16,18 @@ use Rattle.context.specs.declared.Sequent.{Sequent}
 use Rattle.context.specs.declared.Limits.{Limits}
 use Rattle.context.specs.declared.Answer.{Answer}
 use Rattle.context.specs.declared.Answer.the-variants.{Found, Short}
-use Rattle.context.specs.Moves.{stretch, most, spent, upped, pushed, limitsOf}
+use Rattle.context.specs.Moves.{most, spent, upped, pushed, limitsOf}
 use Rattle.context.specs.Area.{Rec, rec, raised, pushPlace}
 use Rattle.representation.specs.Reading.{Lent, lent, kindAt, leftAt, rightAt, shapeAt, seqOf, Shows, putNodes}
 use Rattle.representation.specs.Keeping.{Rep}
-use Rattle.representation.specs.Meaning.{asks, Meets, Goes, Gives}
+use Rattle.representation.specs.Meaning.{asks, Meets, Goes}
 use Rattle.representation.specs.Parts.{implEnd}
 use Rattle.representation.specs.Closing.{Closes}
+use Rattle.representation.specs.Making.{Made, Tested}
 use Rattle.representation.proofs.Areas.{fields, Area, area-start, area-up, area-push}
 use Rattle.representation.proofs.Write.{words-none}
-use Rattle.representation.proofs.Charge.{Tested, passes}
-use Rattle.representation.proofs.Making.{Made, made-of, count-seq}
+use Rattle.representation.proofs.Charge.{passes}
+use Rattle.representation.proofs.Making.{made-of, count-seq}
 use Rattle.representation.proofs.Branch.{goes-by, gives-close, gives-short, gives-lost, gives-found, back-found}
 use Rattle.representation.proofs.Combine.{Lost}
 use Rattle.representation.proofs.Look.{shape-as, children, fits16}

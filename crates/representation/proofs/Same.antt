@@ -7,15 +7,13 @@ use native.Mathlib.Nat.{min-le-left}
 use lib.ListN.{length, getD, set, take, length-set, length-take}
 use lib.Seq.{getD-set-other, getD-take, ext-getD}
 use lib.Dec.{T}
-use Rattle.theory.specs.Form.{shape, Book, goodWord}
-use Rattle.theory.specs.Layout.{nodeWidth}
+use Rattle.theory.specs.Form.{shape, goodWord}
 use Rattle.theory.specs.Meter as M
-use Rattle.context.specs.declared.State.{State}
 use Rattle.context.specs.declared.Sequent.{Sequent}
 use Rattle.context.specs.declared.Limits.{Limits}
 use Rattle.context.specs.Moves.{stretch}
-use Rattle.context.specs.Area.{Rec, none, formulaAt, termAt}
-use Rattle.representation.specs.Reading.{Lent, shapeAt, book, entryAt, unorderedIn, orderedIn, Shows}
+use Rattle.context.specs.Area.{Rec, none}
+use Rattle.representation.specs.Reading.{Lent, shapeAt, book, entryAt, unorderedIn, orderedIn}
 use Rattle.representation.specs.Keeping.{Same, Laid, Rooms, Inside, Seats, Frame}
 use Rattle.representation.proofs.Tables.{upto-ext, downto-ext}
 

@@ -1,25 +1,25 @@
 -- The contexts that a stretch holds after each move of the work area: pop, push, append, copy up, take out. Each law takes what the
 -- code's function says of its exit. Assumes nothing.
-use Prim.Native.Nat.{ℕ, zero, suc, _+_, _-_, _*_, _%_, _<_, _≤_}
+use Prim.Native.Nat.{ℕ, _+_, _-_, _*_, _<_, _≤_}
 use mathlib.Core.Path.{_≡_, refl, sym, ap, ap₂, _∙_, subst}
-use mathlib.Core.List.{List, [], _∷_, _++_, append-nil}
+use mathlib.Core.List.{List, [], _∷_, _++_}
 use native.Mathlib.Omega.{arith}
 use native.Mathlib.Nat.{mod-eq-of-lt}
 use native.Mathlib.Numerals.{add-one}
 use borrow.Author.Count.{below-more}
-use lib.ListN.{length, getD, set, length-set}
+use lib.ListN.{length, getD, set}
 use lib.Seq.{getD-set-same, getD-set-other}
 use Rattle.theory.specs.Meter.{Entry}
 use Rattle.theory.specs.Search.{entry}
 use Rattle.context.specs.declared.Sequent.{Sequent}
 use Rattle.context.specs.declared.Limits.{Limits}
-use Rattle.context.specs.Moves.{stretch, upped, pushed, popped, appended, without}
-use Rattle.context.specs.Area.{Rec, none, rec, formulaAt, termAt, copies, raised, removed, pushPlace, appendPlace, topPlace}
-use Rattle.representation.specs.Tables.{upto, downto, from}
+use Rattle.context.specs.Moves.{stretch, pushed, popped, appended}
+use Rattle.context.specs.Area.{Rec, none, rec, pushPlace, appendPlace, topPlace}
+use Rattle.representation.specs.Tables.{upto, downto}
 use Rattle.representation.specs.Reading.{entryAt, unorderedIn, orderedIn}
-use Rattle.representation.specs.Keeping.{Same, Inside, Seats}
-use Rattle.representation.proofs.Tables.{upto-length, downto-length, upto-ext, upto-split, from-ext}
-use Rattle.representation.proofs.Same.{same-set, same-trans, unordered-same, ordered-same, inside-same}
+use Rattle.representation.specs.Keeping.{Inside, Seats}
+use Rattle.representation.proofs.Tables.{upto-length, downto-length}
+use Rattle.representation.proofs.Same.{unordered-same, ordered-same, inside-same}
 
 pub unordered-length : (w : List Rec) (l n : ℕ) → length (unorderedIn w l n) ≡ n
 unfolding unorderedIn

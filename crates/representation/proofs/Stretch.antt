@@ -2,7 +2,7 @@
 use Prim.Native.Nat.{ℕ, suc, _+_, _-_, _*_, _<_, _≤_}
 use mathlib.Core.Path.{_≡_, refl, sym, ap, ap₂, _∙_, subst}
 use mathlib.Core.Bool.{Bool, true, false}
-use mathlib.Core.List.{List, [], _∷_, _++_}
+use mathlib.Core.List.{List, _∷_, _++_}
 use native.Mathlib.Omega.{arith}
 use lib.ListN.{length, getD, length-append}
 use lib.Dec.{ltb}
@@ -12,7 +12,7 @@ use Rattle.context.specs.declared.Sequent.{Sequent}
 use Rattle.context.specs.declared.Limits.{Limits}
 use Rattle.context.specs.Moves.{stretch, upped, without}
 use Rattle.context.specs.Area.{Rec, none, copies, shifts, raised, removed}
-use Rattle.representation.specs.Tables.{upto, from, downto}
+use Rattle.representation.specs.Tables.{upto, from}
 use Rattle.representation.specs.Reading.{entryAt, unorderedIn, orderedIn}
 use Rattle.representation.specs.Keeping.{Same, Inside, Seats}
 use Rattle.representation.proofs.Tables.{upto-ext, downto-ext, upto-split, from-ext, upto-length, parts-same}

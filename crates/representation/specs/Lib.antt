@@ -3,6 +3,7 @@ pub mod Reading
 pub mod Keeping
 pub mod Meaning
 pub mod Leaves
+pub mod Making
 pub mod Closing
 pub mod Parts
 pub mod Turning

@@ -1,7 +1,6 @@
 -- `lack` meets its contract: each arm has the tests before it. Assumes nothing.
 use Rattle.context.proofs.lack.Statement.{statement}
 use Rattle.context.proofs.lack.Tie as tie
-use borrow.Author.Needs.{needs}
 use Rattle.context.proofs.Laws.{lack-names, lack-formulas, lack-terms, lack-contexts, lack-levels, lack-none}
 use native.Mathlib.Omega.{arith}
 

@@ -3,7 +3,7 @@ use Rattle.context.proofs.shift_run.Statement.{statement}
 use Rattle.context.proofs.shift_run.Tie as tie
 use borrow.Author.Needs.{needs}
 use mathlib.Core.Path.{_≡_, refl, sym, _∙_}
-use Prim.Native.Nat.{_+_, _≤_, _<_}
+use Prim.Native.Nat.{_+_, _<_}
 use lib.ListN.{length}
 use Rattle.context.specs.Area.{shifts}
 use Rattle.context.proofs.Laws.{shifts-step, shifts-end}
