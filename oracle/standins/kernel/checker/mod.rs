@@ -1,0 +1,3 @@
+//! Stand-in for kernel/checker/mod.rs.
+pub mod check;
+pub mod identifier_context;

@@ -1,0 +1,1 @@
+//! Stand-in for kernel/prove/tests.rs: no tests.
