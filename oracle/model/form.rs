@@ -1,0 +1,51 @@
+//! Form.antt: formula words and their shapes.
+
+#[derive(Clone, Copy, PartialEq)]
+pub enum Shape {
+    Top,
+    Bot,
+    Leaf(usize, usize),
+    And(usize, usize),
+    Or(usize, usize),
+    Imp(usize, usize),
+}
+pub use Shape::{And, Bot, Imp, Leaf, Or, Top};
+
+pub fn kind_of(w: usize) -> usize {
+    w % 16
+}
+
+pub fn left_of(w: usize) -> usize {
+    w / 16 % 16384
+}
+
+pub fn right_of(w: usize) -> usize {
+    w / 262144
+}
+
+pub fn shape(w: usize) -> Shape {
+    let (l, r) = (left_of(w), right_of(w));
+    match kind_of(w) {
+        0 => Top,
+        1 => Bot,
+        2 => Leaf(2, l),
+        3 => And(l, r),
+        4 => Or(l, r),
+        5 => Imp(l, r),
+        k => Leaf(k, l),
+    }
+}
+
+pub fn good_word(before: usize, w: usize) -> bool {
+    let (l, r) = (left_of(w), right_of(w));
+    match kind_of(w) {
+        0 | 1 => l == 0 && r == 0,
+        2 | 6 | 7 => r == 0,
+        3 | 4 | 5 => l < before && r < before,
+        _ => false,
+    }
+}
+
+pub fn bad_word(ws: &[usize]) -> Option<usize> {
+    (0..ws.len()).find(|i| !good_word(*i, ws[*i]))
+}
