@@ -115,7 +115,7 @@ put-upto t n xs w h =
     let ys : List ℕ = map low xs in
     let l : length ys ≡ nodeWidth = length-map xs low ∙ w in
     let front : List ℕ = take (n * nodeWidth) t ++ ys in
-    let size : length front ≡ suc n * nodeWidth = length-append (take (n * nodeWidth) t) ys
-    ∙ ap₂ _+_ (length-take-le (n * nodeWidth) t (omega arith)) l ∙ omega arith in
+    let size : length front ≡ suc n * nodeWidth =
+    length-append (take (n * nodeWidth) t) ys ∙ ap₂ _+_ (length-take-le (n * nodeWidth) t (omega arith)) l ∙ omega arith in
     ap (take (suc n * nodeWidth)) (put-room t n xs h ∙ sets-eq ys t (n * nodeWidth) (omega arith))
     ∙ take-at front (drop (n * nodeWidth + length ys) t) (suc n * nodeWidth) size

@@ -58,19 +58,9 @@ returns-2 : tie.Need-returns-2
 returns-2 c =
     let first = c .before .before .before .before in
     let kind = first .before .before .before .before in
-    node-judged
-    _
-    _
-    _
-    _
-    (kind .fields-of .ensures)
-    (kind .before .number .ensures)
-    (first .before .before .a .given .1)
-    (first .lawful-field .ensures)
-    (c .before .before .before .lawful-field2 .ensures)
-    (c .before .before .lawful-field3 .ensures)
-    (c .before .lawful-field4 .ensures)
-    (c .lawful-field5 .ensures)
+    node-judged _ _ _ _ (kind .fields-of .ensures) (kind .before .number .ensures) (first .before .before .a .given .1)
+    (first .lawful-field .ensures) (c .before .before .before .lawful-field2 .ensures) (c .before .before .lawful-field3 .ensures)
+    (c .before .lawful-field4 .ensures) (c .lawful-field5 .ensures)
 
 pub lawful-node-spec : {M : Type 1} → statement M
 lawful-node-spec =

@@ -52,23 +52,8 @@ returns c =
     let s₃ = s₄ .before .before .before .before in
     let s₂ = s₃ .before .before .before .before in
     let s₁ = s₂ .before .before .before .before in
-    let s₀ = s₁ .before .before .before .before in
-    put-stores
-    (s₀ .args .t .now)
-    (s₀ .args .n)
-    (s₀ .args .kind)
-    (s₀ .args .a)
-    (s₀ .args .b)
-    (s₀ .args .c)
-    (s₀ .args .d)
-    (s₀ .args .e)
-    (s₁ .before .before .if1 .taken)
-    (s₁ .store .ensures)
-    (s₂ .store2 .ensures)
-    (s₃ .store3 .ensures)
-    (s₄ .store4 .ensures)
-    (s₅ .store5 .ensures)
-    (s₆ .store6 .ensures)
+    put-stores _ _ _ _ _ _ _ _ (s₁ .before .before .if1 .taken) (s₁ .store .ensures) (s₂ .store2 .ensures) (s₃ .store3 .ensures)
+    (s₄ .store4 .ensures) (s₅ .store5 .ensures) (s₆ .store6 .ensures)
 
 returns-2 : tie.Need-returns-2
 returns-2 c = sym (put-no-room _ _ _ (c .if1 .left))
