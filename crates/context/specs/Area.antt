@@ -15,6 +15,10 @@ none = []
 abbrev pub rec : ℕ → ℕ → Rec
 rec a x = a % 65536 ∷ x % 65536 ∷ []
 
+-- a record of two zeros
+abbrev pub zeroed : Rec
+zeroed = 0 ∷ 0 ∷ []
+
 abbrev pub formulaAt : List Rec → ℕ → ℕ
 formulaAt w i = getD (getD w i none) 0 0
 

@@ -3,9 +3,9 @@
 // What is `pub` here is for the search's own crates: a `requires` is what their code shows before it calls.
 ghost use mathlib.Core.Path.{_≡_};
 ghost use Prim.Native.Nat.{_+_, _-_, _*_, _%_, _≤_, _<_};
-ghost use lib.ListN.{length, getD, set};
+ghost use lib.ListN.{length, getD, set, replicate};
 ghost use Rattle.theory.specs.Meter.{lacking};
-ghost use Rattle.context.specs.Area.{none, rec, formulaAt, termAt, copies, shifts, raised, pushPlace, appendPlace, removed, topPlace};
+ghost use Rattle.context.specs.Area.{none, rec, zeroed, formulaAt, termAt, copies, shifts, raised, pushPlace, appendPlace, removed, topPlace};
 ghost use Rattle.context.specs.Moves.{stretch, most, stepped, spent, returned, upped, pushed, popped, appended, without, limitsOf};
 ghost use Rattle.context.specs.Moves.{numberOf};
 
@@ -77,6 +77,17 @@ pub fn put(w: &mut [[u16; 2]], i: usize, a: usize, x: usize)
 {
     if i < w.len() {
         w[i] = [(a % 65536) as u16, (x % 65536) as u16];
+    }
+}
+
+// Every record becomes zero.
+pub fn clear(w: &mut [[u16; 2]])
+    ensures { λ _. ⌜ now (w .exit) ≡ replicate (length (now (w .entry))) zeroed ⌝ }
+{
+    let mut i = 0;
+    while i < w.len() {
+        w[i] = [0, 0];
+        i += 1;
     }
 }
 

@@ -1,8 +1,9 @@
 // Formula words (document 01): total reads and stores, the fields by shifts and masks, leaves, the layout test, and the rows 1, 3 and 5.
 ghost use mathlib.Core.Path.{_≡_};
 ghost use Prim.Native.Nat.{_%_};
-ghost use lib.ListN.{getD, set, take};
+ghost use lib.ListN.{length, getD, set, take};
 ghost use Rattle.theory.specs.Form.{kindOf, leftOf, rightOf, pack, goodFields, goodWord, badWord};
+ghost use Rattle.theory.specs.NameText.{padded};
 ghost use Rattle.theory.specs.Refusal.{formulaSizes, termSizes, nodeSizes, highestLevel, workSizes};
 ghost use Rattle.theory.specs.Refusal.{tooMany, outsideFrom, badAssumption, badGoal};
 ghost use Rattle.formula.specs.Answers.{placeOf, levelOf};
@@ -48,6 +49,17 @@ pub fn store(f: &mut [u32], i: usize, x: u32)
 {
     if i < f.len() {
         f[i] = x;
+    }
+}
+
+// The words from `from` on become 0.
+pub fn clear(f: &mut [u32], from: usize)
+    ensures { λ _. ⌜ now (f .exit) ≡ padded (length (now (f .entry))) (take from (now (f .entry))) ⌝ }
+{
+    let mut i = from;
+    while i < f.len() {
+        f[i] = 0;
+        i += 1;
     }
 }
 

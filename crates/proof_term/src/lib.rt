@@ -2,8 +2,8 @@
 ghost use mathlib.Core.Path.{_≡_};
 ghost use mathlib.Core.List.{[], _∷_};
 ghost use Prim.Native.Nat.{_*_, _≤_, _<_};
-ghost use lib.ListN.{length, getD, set};
-ghost use Rattle.theory.specs.NameText.{namesIn};
+ghost use lib.ListN.{length, getD, set, take};
+ghost use Rattle.theory.specs.NameText.{namesIn, padded};
 ghost use Rattle.theory.specs.Layout.{nodeWidth, fieldsOf, lawfulName, lawfulField, lawfulNode, badTerm};
 ghost use Rattle.proof_term.specs.Kinds.{fieldAs, fieldsAs};
 ghost use Rattle.proof_term.specs.Places.{placeOf};
@@ -91,6 +91,17 @@ pub fn put(t: &mut [u16], n: usize, kind: usize, a: usize, b: usize, c: usize, d
         store(t, at + 3, c);
         store(t, at + 4, d);
         store(t, at + 5, e);
+    }
+}
+
+// The numbers from `from` on become 0.
+pub fn clear(t: &mut [u16], from: usize)
+    ensures { λ _. ⌜ now (t .exit) ≡ padded (length (now (t .entry))) (take from (now (t .entry))) ⌝ }
+{
+    let mut i = from;
+    while i < t.len() {
+        t[i] = 0;
+        i += 1;
     }
 }
 

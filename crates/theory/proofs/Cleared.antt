@@ -1,6 +1,7 @@
 -- A list that is cleared from a place on, one element after another: the law of every closing clear, over the element. Assumes nothing.
 use Prim.Native.Nat.{ℕ, zero, suc, _+_, _-_, _≤_, _<_}
 use mathlib.Core.Path.{_≡_, refl, sym, ap, _∙_}
+use mathlib.Core.Logic.{_⊎_, inl, inr}
 use mathlib.Core.List.{List, [], _∷_, _++_, append-assoc, append-nil}
 use native.Mathlib.Decide.{decLe}
 use native.Mathlib.Omega.{arith}
@@ -50,11 +51,13 @@ module _ {A : Type 0} (z : A) (l : List A) (from : ℕ) where
       let e : i ≡ length l = omega arith in
       sym (take-all i l′ (omega (arith, c .long))) ∙ c .front ∙ ap (λ (n : ℕ). take from l ++ replicate (n - from) z) e
 
-  -- nothing is cleared past the end
-  pub clearing-none : length l ≤ from → l ≡ take from l ++ replicate (length l - from) z
-  clearing-none h =
-      let e : length l - from ≡ 0 = omega arith in
-      sym (take-all from l h) ∙ sym (append-nil (take from l)) ∙ ap (λ (k : ℕ). take from l ++ replicate k z) (sym e)
+  -- a loop from `from` on ends at the end of the list, or where it starts if that is past it
+  pub clearing-done : {i : ℕ} {l′ : List A} → Clearing i l′ → length l ≤ i → (i ≤ length l) ⊎ (i ≡ from) →
+      l′ ≡ take from l ++ replicate (length l - from) z
+  clearing-done c h (inl k) = clearing-ends c h k
+  clearing-done {i} {l′} c h (inr e) =
+      let n : i - from ≡ length l - from = omega arith in
+      sym (take-all i l′ (omega (arith, c .long))) ∙ c .front ∙ ap (λ (k : ℕ). take from l ++ replicate k z) n
 
 -- what is kept and padded with zeros is what is cleared from its end on
 pub padded-take : (l : List ℕ) (from : ℕ) → take from l ++ replicate (length l - from) 0 ≡ padded (length l) (take from l)
