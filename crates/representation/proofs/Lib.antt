@@ -20,3 +20,4 @@ pub mod Fires
 pub mod Firing
 pub mod LeftImpl
 pub mod LeftNew
+pub mod LeftOr
