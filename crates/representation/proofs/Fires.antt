@@ -3,15 +3,15 @@ use Prim.Native.Nat.{ℕ, zero, suc, _+_, _*_, _≤_, _<_}
 use mathlib.Core.Path.{_≡_, refl, sym, ap, _∙_, subst}
 use mathlib.Core.Bool.{Bool, true, false}
 use mathlib.Core.Option.{Option, none, some}
-use mathlib.Core.List.{List, [], _∷_, _++_}
+use mathlib.Core.List.{List, [], _∷_}
 use native.Mathlib.Omega.{arith}
 use lib.ListN.{length, getD, take}
 use lib.Seq.{length-take-le}
-use lib.Dec.{T, eqb, ltb}
+use lib.Dec.{eqb, ltb}
 use borrow.Author.Tests.{eqb-true, eqb-false, ltb-true, ltb-false}
 use Rattle.theory.specs.Form.{Book, Shape, isTop, isBot, isLeaf, isAnd, isOr, isImp, shape, shapeOf, look, Below}
 use Rattle.theory.specs.Meter.{Entry}
-use Rattle.theory.specs.Search.{firstLeaf, fireLeaf, fireShape}
+use Rattle.theory.specs.Search.{fireLeaf, fireShape}
 use Rattle.theory.proofs.Words.{word-below}
 use Rattle.theory.proofs.Falling.{firing, firing-none, firing-some, firing-append}
 use Rattle.context.specs.Moves.{stretch}

@@ -1,19 +1,17 @@
 -- The walk of rule 2 by falling position: what the lists hold after each record, and at the end what the search as written comes to.
 -- Assumes nothing.
-use Prim.Native.Nat.{ℕ, zero, suc, _+_, _-_, _*_, _≤_, _<_}
+use Prim.Native.Nat.{ℕ, suc, _+_, _*_, _≤_, _<_}
 use mathlib.Core.Path.{_≡_, refl, sym, ap, ap₂, _∙_, subst}
 use mathlib.Core.Option.{Option, none, some}
 use mathlib.Core.List.{List, [], _∷_, _++_, append-assoc, append-nil}
 use native.Mathlib.Omega.{arith}
-use native.Mathlib.Numerals.{add-one}
 use lib.ListN.{length, getD, set, length-append}
 use lib.Seq.{getD-append-seam}
 use Rattle.theory.specs.Form.{Book, look}
 use Rattle.theory.specs.Term.{Piece, app, Node, node, by, search2, sixOf}
-use Rattle.theory.specs.Layout.{nodeWidth}
 use Rattle.theory.specs.Meter.{Entry}
 use Rattle.theory.specs.Search.{entry, fireShape, Fired, fireAt, fire}
-use Rattle.theory.proofs.Falling.{fires-still, firing, firing-none, firing-some, firing-append, firing-counts, fire-kept, fire-fired}
+use Rattle.theory.proofs.Falling.{fires-still, firing, firing-none, firing-some, firing-append, fire-kept, fire-fired}
 use Rattle.proof_term.specs.Put.{putNode}
 use Rattle.context.specs.declared.Sequent.{Sequent}
 use Rattle.context.specs.declared.Limits.{Limits}
@@ -23,7 +21,7 @@ use Rattle.context.specs.Area as Area
 use Rattle.representation.specs.Reading.{kindAt, rightAt, book, entryAt, unorderedIn, putNodes}
 use Rattle.representation.specs.Keeping.{Same, Laid, Seats}
 use Rattle.representation.specs.Leaves.{firesBy}
-use Rattle.representation.proofs.Tables.{upto-at, upto-length}
+use Rattle.representation.proofs.Tables.{upto-at}
 use Rattle.representation.proofs.Same.{same-refl, same-trans, same-set}
 use Rattle.representation.proofs.Seat.{unordered-length, seats-more, seats-push}
 use Rattle.representation.proofs.Stretch.{seats-out, same-out}
@@ -279,7 +277,8 @@ module _ (m : Limits) (f : List ℕ) (nf : ℕ) (laid : Laid f nf) (long-f : nf 
                 (subst (λ (v : List Rec). Same Area.none (q .level * stretch) w v) (sym ew)
                 (subst (λ (c : ℕ). Same Area.none (c * stretch) w (set (removed w p i) (pushPlace (without p)) (rec (rightAt f a) n1)))
                 (x .so .level)
-                (same-trans out-same (same-set (removed w p i) (pushPlace (without p)) (rec (rightAt f a) n1) (omega (arith, x .so .seats .fits))))));
+                (same-trans out-same (same-set (removed w p i) (pushPlace (without p)) (rec (rightAt f a) n1)
+                (omega (arith, x .so .seats .fits))))));
             numbers = et ∙ ap (λ (c : Entry). putNode t n1 (sixOf (app (c .proof) (termAt w (p .level * stretch + r))))) at-i
                 ∙ ap (λ (l : List ℕ). putNode l n1 (sixOf piece)) (x .so .numbers)
                 ∙ put-last t0 n1 n piece (pieces (fire ws us n (x .back) .nodes)) (omega arith)
@@ -312,7 +311,8 @@ module _ (m : Limits) (f : List ℕ) (nf : ℕ) (laid : Laid f nf) (long-f : nf 
           let back : x .back ≡ us = sym (z .is) in
           let here : n ≡ base = omega (arith, z .next) in
           record {
-            seats = subst (λ (r : Fired). Seats m nf end w p (r .kept) (r .new)) (ap₂ (λ (c : ℕ) (l : List Entry). fire ws us c l) here back)
+            seats = subst (λ (r : Fired). Seats m nf end w p (r .kept) (r .new))
+                (ap₂ (λ (c : ℕ) (l : List Entry). fire ws us c l) here back)
                 (z .seats);
             level = z .level;
             goal = z .goal;

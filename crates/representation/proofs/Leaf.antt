@@ -1,29 +1,29 @@
 -- Leaves by words: the place where the code finds a leaf is where the search as written finds it, and so a record fires. Assumes nothing.
 use Prim.Native.Nat.{ℕ, zero, suc, _+_, _*_, _≤_, _<_}
-use mathlib.Core.Path.{_≡_, refl, sym, ap, ap₂, _∙_, subst}
+use mathlib.Core.Path.{_≡_, refl, sym, ap, _∙_, subst}
 use mathlib.Core.Bool.{Bool, true, false, _&&_, _||_}
 use mathlib.Core.Option.{Option, none, some}
-use mathlib.Core.List.{List, [], _∷_, _++_}
+use mathlib.Core.List.{List, _∷_}
 use native.Mathlib.Omega.{arith}
 use native.Mathlib.Nat.{zero-add}
-use lib.ListN.{length, getD, take}
+use lib.ListN.{getD, take}
 use lib.Dec.{T, eqb, ltb}
-use borrow.Author.Tests.{eqb-true, eqb-false, lt-ltb, le-ltb}
+use borrow.Author.Tests.{eqb-true, lt-ltb, le-ltb}
 use Rattle.theory.specs.Form.{Book, Shape, isTop, isBot, isLeaf, isAnd, isOr, isImp, shape, shapeOf, look, kindOf, leftOf, rightOf}
 use Rattle.theory.specs.Form.{goodWord}
 use Rattle.theory.specs.Meter.{Entry}
-use Rattle.theory.specs.Search.{isLeaf?, firstLeaf, fireLeaf, fireShape}
+use Rattle.theory.specs.Search.{isLeaf?, firstLeaf}
 use Rattle.theory.proofs.Falling.{leaf-over, leaf-here}
 use Rattle.formula.specs.Leaves.{leafKind, equalLeaves}
 use Rattle.formula.proofs.LeafWords.{equal-leaves-are}
 use Rattle.context.specs.Moves.{stretch}
 use Rattle.context.specs.Area.{Rec, formulaAt, termAt}
 use Rattle.representation.specs.Tables.{upto, from}
-use Rattle.representation.specs.Reading.{kindAt, leftAt, rightAt, shapeAt, book, entryAt, unorderedIn}
+use Rattle.representation.specs.Reading.{shapeAt, book, entryAt, unorderedIn}
 use Rattle.representation.specs.Keeping.{Laid}
-use Rattle.representation.specs.Leaves.{wordIn, leafFrom, leafPlace, firesBy}
+use Rattle.representation.specs.Leaves.{wordIn, leafFrom, leafPlace}
 use Rattle.representation.proofs.Tables.{upto-split}
-use Rattle.representation.proofs.Look.{shape-as, book-at}
+use Rattle.representation.proofs.Look.{book-at}
 
 -- the term of the leaf of this shape among the unordered records, if it is one and stands there
 unfoldable pub leafOf : Book → List Entry → Shape → Option ℕ

@@ -141,7 +141,7 @@ module _ {m : Limits} (taken : List (List ℕ)) {x : Lent} {s : State} {q : Sequ
     unfolding shapeOf
     and-shape = shape-as (x .words) (topFormula x q) e
 
-    and-parts : (leftAt (x .words) (topFormula x q) < s .formulas) × (rightAt (x .words) (topFormula x q) < s .formulas)
+    pub and-parts : (leftAt (x .words) (topFormula x q) < s .formulas) × (rightAt (x .words) (topFormula x q) < s .formulas)
     and-parts = let b = children rep (top-inside .formula-in) and-shape in let g = top-inside .formula-in in (omega arith, omega arith)
 
     abbrev pub andNext : M.Sequent

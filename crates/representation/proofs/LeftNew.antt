@@ -68,7 +68,7 @@ module _ {m : Limits} (taken : List (List ℕ)) {x : Lent} {s : State} {q : Sequ
   names-up = omega (arith, fresh-above taken (a + 1))
 
   module _ (k : kindAt (x .words) (fromOf x q) ≡ 3) where
-    curry-parts : (firstOf x q < s .formulas) × (secondOf x q < s .formulas)
+    pub curry-parts : (firstOf x q < s .formulas) × (secondOf x q < s .formulas)
     unfolding shapeOf
     curry-parts = let c = from-below taken rep some e (shape-as (x .words) (fromOf x q) k) in
         let g = ends-in taken rep some e in (omega arith, omega arith)
@@ -146,7 +146,7 @@ module _ {m : Limits} (taken : List (List ℕ)) {x : Lent} {s : State} {q : Sequ
     left-curry mk p = goes-by curry-by (gives-on mk p)
 
   module _ (k : kindAt (x .words) (fromOf x q) ≡ 4) where
-    sides-parts : (firstOf x q < s .formulas) × (secondOf x q < s .formulas)
+    pub sides-parts : (firstOf x q < s .formulas) × (secondOf x q < s .formulas)
     unfolding shapeOf
     sides-parts = let c = from-below taken rep some e (shape-as (x .words) (fromOf x q) k) in
         let g = ends-in taken rep some e in (omega arith, omega arith)

@@ -1,23 +1,23 @@
 -- The way of left through Or: a name, its Ident and the first half a level up; the same for the second; the Case. Assumes nothing.
-use Prim.Native.Nat.{ℕ, suc, _+_, _-_, _<_, _≤_}
-use mathlib.Core.Path.{_≡_, refl, sym, ap, ap₂, _∙_, subst}
-use mathlib.Core.List.{List, [], _∷_, _++_}
+use Prim.Native.Nat.{ℕ, _+_, _-_, _<_, _≤_}
+use mathlib.Core.Path.{_≡_, refl, sym, ap, ap₂, _∙_}
+use mathlib.Core.List.{List, [], _∷_}
 use native.Mathlib.Omega.{arith}
 use native.Mathlib.Numerals.{add-one}
-use lib.ListN.{length, set}
-use Rattle.theory.specs.Form.{isOr, shapeOf, rightOf}
+use lib.ListN.{set}
+use Rattle.theory.specs.Form.{isOr, shapeOf}
 use Rattle.theory.specs.Term.{by, ident, case, leftOr}
 use Rattle.theory.specs.Names.{fresh}
 use Rattle.theory.specs.Meter as M
 use Rattle.theory.specs.Meter.{limited, count, charge, andThen}
-use Rattle.theory.specs.Search.{name, entry, onLeft, rule}
+use Rattle.theory.specs.Search.{name, onLeft, rule}
 use Rattle.context.specs.declared.State.{State}
 use Rattle.context.specs.declared.Sequent.{Sequent}
 use Rattle.context.specs.declared.Limits.{Limits}
 use Rattle.context.specs.declared.Answer.{Answer}
 use Rattle.context.specs.declared.Answer.the-variants.{Found, Short}
-use Rattle.context.specs.Moves.{stretch, most, spent, upped, pushed, popped, limitsOf}
-use Rattle.context.specs.Area.{Rec, rec, formulaAt, raised, pushPlace, topPlace}
+use Rattle.context.specs.Moves.{most, spent, upped, pushed, popped, limitsOf}
+use Rattle.context.specs.Area.{Rec, rec, raised, pushPlace}
 use Rattle.representation.specs.Reading.{Lent, lent, kindAt, leftAt, rightAt, shapeAt, entryAt, orderedIn, seqOf, Shows, putNodes}
 use Rattle.representation.specs.Keeping.{Rep}
 use Rattle.representation.specs.Meaning.{asks, Meets, Goes, Gives}
@@ -65,7 +65,8 @@ module _ {m : Limits} (taken : List (List ℕ)) {x : Lent} {s : State} {q : Sequ
         let goal : q .goal < s .formulas = rep .seats .goal-in in
         made-of leftOr (g + 1) (ident (name g) ∷ []) (halfNext a) rep words-none et
         (fits16 (ident (name g)) tt (omega (arith, p .indices)), tt) es (p .indices) (omega (arith, p .formulas)) (p .terms)
-        (area-push (area-up (area-top taken rep some (q3 .level) (omega arith) (omega arith) eq) (q .goal) (omega arith) (omega (arith, p .levels))
+        (area-push (area-up (area-top taken rep some (q3 .level) (omega arith) (omega arith) eq) (q .goal) (omega arith)
+        (omega (arith, p .levels))
         (omega arith) ew eq2) a (s .terms) (omega arith) (omega arith) few (omega (arith, p .contexts)) (omega arith) ew2 eq3)
         (omega arith) refl refl (omega arith) (omega arith)
 
@@ -101,15 +102,18 @@ module _ {m : Limits} (taken : List (List ℕ)) {x : Lent} {s : State} {q : Sequ
     left-or-lost l p = goes-by or-by (gives-lost mk _ l p)
 
     -- the first half is found, and what is left of the rule gives r; h and b are read where the first half left the lists
-    pub left-or-then : {i h b : ℕ} {s2 : State} {r : Answer} {z : Lent} → q .level < q1 .level → Meets M.byLeft m taken x1 s1 q1 (Found i s2) y →
+    pub left-or-then : {i h b : ℕ} {s2 : State} {r : Answer} {z : Lent} → q .level < q1 .level → Meets M.byLeft m taken x1 s1 q1
+        (Found i s2) y →
         h ≡ topTerm x q → b ≡ rightAt (x .words) (topFormula x q) →
         Gives (λ d S. orSecond m taken (seqOf (y .records) q) (others y q) b h (name g) d i S) m y s2 q r z →
         Goes M.byLeft m taken x s q r z
     left-or-then {i} {h} {b} up p eh eb k =
         let back = back-found mk rep up (p .kept) in
         goes-by or-by (gives-found mk _ rep up p (gives-as _
-        (λ S sh d. ap₂ (λ (Q : M.Sequent) (os : List M.Entry). orSecond m taken Q os (rightAt (x .words) (topFormula x q)) (topTerm x q) (name g) d i S)
-        (sym (back .seq)) (sym (others-back back)) ∙ ap₂ (λ (b h : ℕ). orSecond m taken (seqOf (y .records) q) (others y q) b h (name g) d i S)
+        (λ S sh d. ap₂ (λ (Q : M.Sequent) (os : List M.Entry). orSecond m taken Q os (rightAt (x .words) (topFormula x q)) (topTerm x q)
+        (name g) d i S)
+        (sym (back .seq)) (sym (others-back back)) ∙ ap₂ (λ (b h : ℕ). orSecond m taken (seqOf (y .records) q) (others y q) b h
+        (name g) d i S)
         (sym eb) (sym eh)) k))
       where
         others-back : {s2 : State} → Back m x s q s2 y → others y q ≡ others x q
@@ -153,4 +157,5 @@ module _ {m : Limits} (taken : List (List ℕ)) {x : Lent} {s : State} {q : Sequ
         let j-few = p .kept .within .in-terms in
         let most-in = rep .rooms .most-terms in
         gives-as _ second-by (gives-found mk (orEnd m h v i (name g)) rep up p
-        (gives-close leftOr (back .rep) (fits16 (case h v i (name g) _) (omega arith, omega arith, omega arith) (omega arith, omega arith)) c))
+        (gives-close leftOr (back .rep) (fits16 (case h v i (name g) _) (omega arith, omega arith, omega arith)
+        (omega arith, omega arith)) c))

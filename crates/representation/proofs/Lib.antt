@@ -21,3 +21,7 @@ pub mod Firing
 pub mod LeftImpl
 pub mod LeftNew
 pub mod LeftOr
+pub mod Falls
+pub mod FallsLeft
+pub mod FallsNew
+pub mod FallsRight

@@ -98,6 +98,7 @@ made-of {m} {x} {s} {q} {ws} {f1} {t1} {w1} {s1} {q1} {us} {os} rule u ps Q rep 
       terms-up = omega arith;
       level-up = lv;
       next = seq;
+      books = wo .books;
       shows = λ S sh. record {
         words = ap (λ (b : Book). b ++ ws) (sh .words) ∙ sym (wo .books);
         nodes = put-more rule (x .numbers) (s .terms) ps (S .nodes) fitting room6 (sh .nodes);

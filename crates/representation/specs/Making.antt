@@ -11,7 +11,7 @@ use Rattle.context.specs.declared.State.{State}
 use Rattle.context.specs.declared.Sequent.{Sequent}
 use Rattle.context.specs.declared.Limits.{Limits}
 use Rattle.context.specs.Moves.{stretch, most, limitsOf, numberOf}
-use Rattle.representation.specs.Reading.{Lent, seqOf, Shows}
+use Rattle.representation.specs.Reading.{Lent, book, seqOf, Shows}
 use Rattle.representation.specs.Keeping.{Rep, Frame}
 
 -- the code's test of a charge gave n
@@ -35,6 +35,7 @@ pub record Made (m : Limits) (x : Lent) (s : State) (q : Sequent) (u : ℕ) (ws 
   pub terms-up : s .terms ≤ s1 .terms
   pub level-up : q .level ≤ q1 .level
   pub next : Q ≡ seqOf (x1 .records) q1
+  pub books : book (x1 .words) (s1 .formulas) ≡ book (x .words) (s .formulas) ++ ws
   pub shows : (S : M.State) → Shows x s S → Shows x1 s1
       (record { words = S .words ++ ws; nodes = S .nodes ++ ns; used = u; steps = S .steps })
   pub room : (S : M.State) → Shows x s S → Passes m u (length (S .words) + length ws) (length (S .nodes) + length ns) (count Q) (Q .level)

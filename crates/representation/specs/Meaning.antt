@@ -68,10 +68,3 @@ pub record GoesOn (m : Limits) (taken : List (List ℕ)) (x : Lent) (s : State) 
   where
     pub on : Onward m taken x s q x1 s1 q1
     pub less : weigh M.byLeft (x1 .words) (s1 .formulas) (x1 .records) q1 < weigh M.byLeft (x .words) (s .formulas) (x .records) q
-
--- left ends in what follows the judgement j's counted entry: Or of left, the tries of search
-pub record Handed (j : M.Judgement) (m : Limits) (taken : List (List ℕ)) (x : Lent) (s : State) (q : Sequent) (x1 : Lent) (s1 : State)
-    (q1 : Sequent) : Type 0 where
-  pub rep : Rep m x1 s1 q1
-  pub carries : (r : Answer) (y : Lent) → Goes j m taken x1 s1 q1 r y → Meets M.byLeft m taken x s q r y
-  pub falls : weigh j (x1 .words) (s1 .formulas) (x1 .records) q1 ≤ weigh M.byLeft (x .words) (s .formulas) (x .records) q

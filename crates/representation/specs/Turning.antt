@@ -41,7 +41,8 @@ pub record Tries (m : Limits) (taken : List (List ℕ)) (x : Lent) (s : State) (
 
 -- what one rule of judgement j comes to, its entry counted
 pub data Turns (m : Limits) (taken : List (List ℕ)) (x : Lent) (s : State) (q : Sequent) : M.Judgement → Next → Lent → Type 0 where
-  turns-on : {j : M.Judgement} {y : Lent} {s1 : State} {q1 : Sequent} → GoesLeft j m taken x s q y s1 q1 → Turns m taken x s q j (Go s1 q1) y
+  turns-on : {j : M.Judgement} {y : Lent} {s1 : State} {q1 : Sequent} → GoesLeft j m taken x s q y s1 q1 → Turns m taken x s q j
+      (Go s1 q1) y
   turns-end : {j : M.Judgement} {y : Lent} {a : Answer} → Goes j m taken x s q a y → Turns m taken x s q j (End a) y
   turns-split : Splits x q → Turns m taken x s q M.byLeft (Split s q) x
   turns-try : Tries m taken x s q → Turns m taken x s q M.bySearch (Try s q) x
