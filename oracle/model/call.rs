@@ -12,7 +12,7 @@ pub enum Fault {
     BadGoal = 5,
 }
 
-/// What is lent beside the file's contents; free: no limit holds.
+/// What is lent beside the file's contents; free: no limit but that of steps holds.
 #[derive(Clone, Copy)]
 pub struct Lent {
     pub words: usize,
@@ -66,7 +66,7 @@ pub fn refusal(x: &Claim) -> Option<Fault> {
 pub fn search_limits(lent: &Lent) -> Limits {
     let unless_free = |n| if lent.free { usize::MAX } else { n };
     Limits {
-        steps: unless_free(lent.steps),
+        steps: lent.steps,
         names: unless_free(4096),
         formulas: unless_free(lent.words),
         terms: unless_free(lent.nodes),

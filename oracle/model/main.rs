@@ -5,8 +5,8 @@
 //!     model --batch [..]      many house files, each after its length in 4 bytes, little-endian; each answer in the same way
 //!
 //! It prints `File.printed`. With --more, `unprovable` is followed by its index count too (`names N`), and a shortage by its steps.
-//! --free drops every limit. --words, --nodes, --steps and --text lend so much instead of what the program lends. --status prints the
-//! status of the goal, the assumptions left out, and with --more whether the second search ran short.
+//! --free drops every limit but that of steps. --words, --nodes, --steps and --text lend so much instead of what the program lends.
+//! --status prints the status of the goal, the assumptions left out, and with --more whether the second search ran short.
 mod call;
 mod file;
 mod form;
