@@ -11,7 +11,7 @@ use Rattle.theory.specs.Form.{Book, look}
 use Rattle.theory.specs.Term.{Piece, app, Node, node, by, search2, sixOf}
 use Rattle.theory.specs.Meter.{Entry}
 use Rattle.theory.specs.Search.{entry, fireShape, Fired, fireAt, fire}
-use Rattle.theory.proofs.Falling.{fires-still, firing, firing-none, firing-some, firing-append, fire-kept, fire-fired}
+use Rattle.theory.proofs.Falling.{firing-counts, fires-still, firing, firing-none, firing-some, firing-append, fire-kept, fire-fired}
 use Rattle.proof_term.specs.Put.{putNode}
 use Rattle.context.specs.declared.Sequent.{Sequent}
 use Rattle.context.specs.declared.Limits.{Limits}
@@ -20,18 +20,13 @@ use Rattle.context.specs.Area.{Rec, rec, formulaAt, termAt, removed, pushPlace}
 use Rattle.context.specs.Area as Area
 use Rattle.representation.specs.Reading.{kindAt, rightAt, book, entryAt, unorderedIn, putNodes}
 use Rattle.representation.specs.Keeping.{Same, Laid, Seats}
-use Rattle.representation.specs.Leaves.{firesBy}
+use Rattle.representation.specs.Leaves.{firesBy, pieces, firedAll, Fell}
 use Rattle.representation.proofs.Tables.{upto-at}
 use Rattle.representation.proofs.Same.{same-refl, same-trans, same-set}
 use Rattle.representation.proofs.Seat.{unordered-length, seats-more, seats-push}
 use Rattle.representation.proofs.Stretch.{seats-out, same-out}
 use Rattle.representation.proofs.PutApart.{put-last}
 use Rattle.representation.proofs.Fires.{parts-in, does-fire, does-not-fire, fires-five}
-
--- the pieces of nodes
-unfoldable pub pieces : List Node → List Piece
-pieces [] = []
-pieces (n ∷ ns) = n .piece ∷ pieces ns
 
 -- the nodes of rule 2 are all its own
 pieces-at : (ws : Book) (us : List Entry) (e : Entry) (es : List Entry) (n : ℕ) (o : Option (ℕ × ℕ)) →
@@ -70,6 +65,26 @@ last-of (x ∷ y ∷ xs) i h =
 abbrev pub lastNode : List ℕ → ℕ → ℕ → List Rec → Sequent → ℕ
 lastNode f nf base w q = base + firing (book f nf) (unorderedIn w (q .level) (q .unordered)) (unorderedIn w (q .level) (q .unordered))
 
+-- those of ys have fired, those of xs have not; n is the next node's index, going down
+pub record Fallen (m : Limits) (f : List ℕ) (nf base : ℕ) (t0 : List ℕ) (w0 : List Rec) (q : Sequent) (xs ys : List Entry) (n : ℕ)
+    (t : List ℕ) (w : List Rec) (p : Sequent) : Type 0 where
+  pub is : unorderedIn w0 (q .level) (q .unordered) ≡ xs ++ ys
+  pub next : n ≡ base + firing (book f nf) (unorderedIn w0 (q .level) (q .unordered)) xs
+  pub seats : Seats m nf (lastNode f nf base w0 q) w p (xs ++ fire (book f nf) (unorderedIn w0 (q .level) (q .unordered)) n ys .kept)
+      (fire (book f nf) (unorderedIn w0 (q .level) (q .unordered)) n ys .new)
+  pub level : p .level ≡ q .level
+  pub goal : p .goal ≡ q .goal
+  pub lower : Same Area.none (q .level * stretch) w0 w
+  pub numbers : t ≡ putNodes t0 n (pieces (fire (book f nf) (unorderedIn w0 (q .level) (q .unordered)) n ys .nodes))
+
+-- the walk has come down to position i
+pub record FallenTo (m : Limits) (f : List ℕ) (nf base : ℕ) (t0 : List ℕ) (w0 : List Rec) (q : Sequent) (i n : ℕ) (t : List ℕ)
+    (w : List Rec) (p : Sequent) : Type 0 where
+  pub front : List Entry
+  pub back : List Entry
+  pub long : length front ≡ i
+  pub so : Fallen m f nf base t0 w0 q front back n t w p
+
 module _ (m : Limits) (f : List ℕ) (nf : ℕ) (laid : Laid f nf) (long-f : nf ≤ length f) (few : nf ≤ 65536) (base : ℕ) (t0 : List ℕ)
     (w0 : List Rec) (room : (m .levels + 1) * stretch ≤ length w0) (q : Sequent) (few-nodes : lastNode f nf base w0 q ≤ 65536) where
   -- the book, the unordered records before any fires, and one past the last node
@@ -82,25 +97,8 @@ module _ (m : Limits) (f : List ℕ) (nf : ℕ) (laid : Laid f nf) (long-f : nf 
   abbrev end : ℕ
   end = lastNode f nf base w0 q
 
-  -- those of ys have fired, those of xs have not; n is the next node's index, going down
-  pub record Fallen (xs ys : List Entry) (n : ℕ) (t : List ℕ) (w : List Rec) (p : Sequent) : Type 0 where
-    pub is : us ≡ xs ++ ys
-    pub next : n ≡ base + firing ws us xs
-    pub seats : Seats m nf end w p (xs ++ fire ws us n ys .kept) (fire ws us n ys .new)
-    pub level : p .level ≡ q .level
-    pub goal : p .goal ≡ q .goal
-    pub lower : Same Area.none (q .level * stretch) w0 w
-    pub numbers : t ≡ putNodes t0 n (pieces (fire ws us n ys .nodes))
-
-  -- the walk has come down to position i
-  pub record FallenTo (i n : ℕ) (t : List ℕ) (w : List Rec) (p : Sequent) : Type 0 where
-    pub front : List Entry
-    pub back : List Entry
-    pub long : length front ≡ i
-    pub so : Fallen front back n t w p
-
   -- it begins behind the last record
-  pub fall-starts : Seats m nf base w0 q us [] → FallenTo (q .unordered) end t0 w0 q
+  pub fall-starts : Seats m nf base w0 q us [] → FallenTo m f nf base t0 w0 q (q .unordered) end t0 w0 q
   unfolding fire pieces putNodes
   fall-starts x = record {
     front = us;
@@ -117,7 +115,7 @@ module _ (m : Limits) (f : List ℕ) (nf : ℕ) (laid : Laid f nf) (long-f : nf 
     };
   }
 
-  module _ {k n : ℕ} {t : List ℕ} {w : List Rec} {p : Sequent} (i : ℕ) (x : FallenTo k n t w p) (down : k ≡ i + 1) where
+  module _ {k n : ℕ} {t : List ℕ} {w : List Rec} {p : Sequent} (i : ℕ) (x : FallenTo m f nf base t0 w0 q k n t w p) (down : k ≡ i + 1) where
     cut : Last (x .front) i
     cut = last-of (x .front) i (x .long ∙ down)
 
@@ -181,7 +179,7 @@ module _ (m : Limits) (f : List ℕ) (nf : ℕ) (laid : Laid f nf) (long-f : nf 
     split-firing = ap (firing ws us) (cut .is) ∙ firing-append ws us zs (e ∷ [])
 
     -- a record that does not fire stays
-    pub fall-past : {r : ℕ} → r ≡ firesBy f w (p .level) (p .unordered) i → p .unordered ≤ r → FallenTo i n t w p
+    pub fall-past : {r : ℕ} → r ≡ firesBy f w (p .level) (p .unordered) i → p .unordered ≤ r → FallenTo m f nf base t0 w0 q i n t w p
     unfolding zs kept firing
     fall-past {r} er h =
         let none-fires : fireShape ws us (look ws (e .formula)) ≡ none =
@@ -215,6 +213,10 @@ module _ (m : Limits) (f : List ℕ) (nf : ℕ) (laid : Laid f nf) (long-f : nf 
       counts : firing ws us (x .front) ≡ firing ws us zs + 1
       unfolding firing
       counts = split-firing ∙ omega (arith, firing-some ws us e [] (termAt w (p .level * stretch + r), rightAt f a) fired)
+
+      -- there is a node for it
+      pub fall-next : 0 < n
+      fall-next = omega (arith, x .so .next, counts)
 
       module _ (n1 : ℕ) (one : n ≡ n1 + 1) where
         next-is : n1 ≡ base + firing ws us zs
@@ -259,7 +261,7 @@ module _ (m : Limits) (f : List ℕ) (nf : ℕ) (laid : Laid f nf) (long-f : nf 
         pub fall-fires : {t1 : List ℕ} {w1 : List Rec} {p1 : Sequent} →
             t1 ≡ putNode t n1 (sixOf (app (termAt w (p .level * stretch + i)) (termAt w (p .level * stretch + r)))) →
             w1 ≡ set (removed w p i) (pushPlace (without p)) (rec (rightAt f (formulaAt w (p .level * stretch + i))) n1) →
-            p1 ≡ pushed (without p) → FallenTo i n1 t1 w1 p1
+            p1 ≡ pushed (without p) → FallenTo m f nf base t0 w0 q i n1 t1 w1 p1
         unfolding zs cut a piece entryAt pieces putNodes
         fall-fires {t1} {w1} {p1} et ew ep = record {
           front = zs;
@@ -294,26 +296,20 @@ module _ (m : Limits) (f : List ℕ) (nf : ℕ) (laid : Laid f nf) (long-f : nf 
                 omega (arith, parts-in f nf laid long-f a (inside i in-p) five, inside i in-p)
 
   -- at the front everything has fired as the search as written says
-  pub record Fell (t : List ℕ) (w : List Rec) (p : Sequent) : Type 0 where
-    pub seats : Seats m nf end w p (fire ws us base us .kept) (fire ws us base us .new)
-    pub level : p .level ≡ q .level
-    pub goal : p .goal ≡ q .goal
-    pub lower : Same Area.none (q .level * stretch) w0 w
-    pub numbers : t ≡ putNodes t0 base (pieces (fire ws us base us .nodes))
-
-  pub fall-ends : {n : ℕ} {t : List ℕ} {w : List Rec} {p : Sequent} → FallenTo 0 n t w p → Fell t w p
+  pub fall-ends : {n : ℕ} {t : List ℕ} {w : List Rec} {p : Sequent} → FallenTo m f nf base t0 w0 q 0 n t w p → Fell m f nf base t0 w0 q t w p
   unfolding firing
   fall-ends {n} {t} {w} {p} x = go (x .front) (x .long) (x .so)
     where
-      go : (xs : List Entry) → length xs ≡ 0 → Fallen xs (x .back) n t w p → Fell t w p
+      go : (xs : List Entry) → length xs ≡ 0 → Fallen m f nf base t0 w0 q xs (x .back) n t w p → Fell m f nf base t0 w0 q t w p
       go (y ∷ ys) h z = absurd (omega arith)
       go [] h z =
           let back : x .back ≡ us = sym (z .is) in
           let here : n ≡ base = omega (arith, z .next) in
           record {
-            seats = subst (λ (r : Fired). Seats m nf end w p (r .kept) (r .new))
-                (ap₂ (λ (c : ℕ) (l : List Entry). fire ws us c l) here back)
-                (z .seats);
+            seats = subst (λ (c : ℕ). Seats m nf (base + c) w p (firedAll f nf base w0 q .kept) (firedAll f nf base w0 q .new))
+                (sym (firing-counts ws us us base .nodes))
+                (subst (λ (r : Fired). Seats m nf end w p (r .kept) (r .new)) (ap₂ (λ (c : ℕ) (l : List Entry). fire ws us c l) here back)
+                (z .seats));
             level = z .level;
             goal = z .goal;
             lower = z .lower;

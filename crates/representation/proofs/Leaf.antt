@@ -61,6 +61,19 @@ leaf-kinds k e l r = go (eqb k 2) refl (eqb k 6) refl (eqb k 7) refl e
     go false p false q true s e = subst (λ (k : ℕ). shapeOf k l r ≡ isLeaf k l) (sym (eqb-true k 7 s)) refl
     go false p false q false s e = absurd (let z : _≡_ {A = ℕ} 0 1 = cc in omega arith)
 
+-- a word that is no leaf's is found nowhere
+none-from : (f : List ℕ) (w : List Rec) (l v i c : ℕ) → leafKind (kindOf v) ≡ false → leafFrom f w l v i c ≡ i + c
+unfolding leafFrom
+none-from f w l v i zero e = omega arith
+none-from f w l v i (suc c) e =
+    ap (λ (t : Bool). elim t [ true ↦ i | false ↦ leafFrom f w l v (suc i) c ]) (never-equal v (wordIn f w l i) e)
+    ∙ none-from f w l v (suc i) c e
+    ∙ (let z : suc i + c ≡ i + suc c = omega arith in z)
+
+pub other-place : (f : List ℕ) (w : List Rec) (l n v : ℕ) → leafKind (kindOf v) ≡ false → leafPlace f w l n v ≡ n
+unfolding leafPlace
+other-place f w l n v e = none-from f w l v 0 n e ∙ zero-add n
+
 module _ (f : List ℕ) (nf : ℕ) (laid : Laid f nf) (w : List Rec) (l : ℕ) where
   at : ℕ → Entry
   at i = entryAt w (l * stretch + i)
@@ -94,19 +107,7 @@ module _ (f : List ℕ) (nf : ℕ) (laid : Laid f nf) (w : List Rec) (l : ℕ) w
             ∙ ih
             ∙ ap (λ (n : ℕ). termIn w l n (leafFrom f w l v (suc i) c)) (let e : suc i + c ≡ i + suc c = omega arith in e)
 
-  -- another word stands nowhere
-  none-from : (v i c : ℕ) → leafKind (kindOf v) ≡ false → leafFrom f w l v i c ≡ i + c
-  unfolding leafFrom
-  none-from v i zero e = omega arith
-  none-from v i (suc c) e = ap (λ (t : Bool). elim t [ true ↦ i | false ↦ leafFrom f w l v (suc i) c ]) (never-equal v (wordIn f w l i) e)
-      ∙ none-from v (suc i) c e ∙ (let z : suc i + c ≡ i + suc c = omega arith in z)
-
   module _ (n : ℕ) (inside : (i : ℕ) → i < n → formulaAt w (l * stretch + i) < nf) where
-    -- a word that is no leaf's is found nowhere
-    pub other-place : (v : ℕ) → leafKind (kindOf v) ≡ false → leafPlace f w l n v ≡ n
-    unfolding leafPlace
-    other-place v e = none-from v 0 n e ∙ zero-add n
-
     -- the leaf of a word is found where the search as written finds it
     pub leaf-place : (b : List ℕ) (v : ℕ) → T (goodWord b v) →
         leafOf (book f nf) (unorderedIn w l n) (shape v) ≡ termIn w l n (leafPlace f w l n v)
@@ -115,7 +116,7 @@ module _ (f : List ℕ) (nf : ℕ) (laid : Laid f nf) (w : List Rec) (l : ℕ) w
       where
         missing : (s : Shape) → shape v ≡ s → ((k y : ℕ) → s ≡ isLeaf k y → ⊥) → none ≡ termIn w l n (leafPlace f w l n v)
         missing s e no-leaf = sym (
-            ap (termIn w l n) (other-place v (kind (leafKind (kindOf v)) refl))
+            ap (termIn w l n) (other-place f w l n v (kind (leafKind (kindOf v)) refl))
             ∙ term-out w l n n (omega arith)
             )
           where

@@ -1,13 +1,21 @@
 -- What search's rules 1 and 2 read off the lists: the place of a leaf among the unordered records, and which records fire. Assumes nothing.
-use Prim.Native.Nat.{ℕ, zero, suc, _+_, _*_}
+use Prim.Native.Nat.{ℕ, zero, suc, _+_, _*_, _≤_}
 use mathlib.Core.Bool.{true, false}
-use mathlib.Core.List.{List}
-use lib.ListN.{getD}
+use mathlib.Core.Path.{_≡_}
+use mathlib.Core.List.{List, [], _∷_}
+use lib.ListN.{length, getD}
 use lib.Dec.{ltb, eqb}
 use Rattle.formula.specs.Leaves.{equalLeaves}
+use Rattle.theory.specs.Term.{Piece, Node}
+use Rattle.theory.specs.Search.{Fired, fire}
+use Rattle.context.specs.declared.State.{State}
+use Rattle.context.specs.declared.Sequent.{Sequent}
+use Rattle.context.specs.declared.Limits.{Limits}
 use Rattle.context.specs.Moves.{stretch}
+use Rattle.context.specs.Area as Area
 use Rattle.context.specs.Area.{Rec, formulaAt}
-use Rattle.representation.specs.Reading.{kindAt, leftAt}
+use Rattle.representation.specs.Reading.{Lent, kindAt, leftAt, book, unorderedIn, putNodes}
+use Rattle.representation.specs.Keeping.{Same, Seats, Rep}
 
 -- the word of the formula of unordered record i of level l
 abbrev pub wordIn : List ℕ → List Rec → ℕ → ℕ → ℕ
@@ -34,3 +42,29 @@ firesBy f w l n i =
 unfoldable pub firingIn : List ℕ → List Rec → ℕ → ℕ → ℕ → ℕ
 firingIn f w l n zero = 0
 firingIn f w l n (suc k) = elim (ltb (firesBy f w l n k) n) [ true ↦ suc (firingIn f w l n k) | false ↦ firingIn f w l n k ]
+
+-- the pieces of nodes
+unfoldable pub pieces : List Node → List Piece
+pieces [] = []
+pieces (n ∷ ns) = n .piece ∷ pieces ns
+
+-- what rule 2 fires, all together: the unordered records of the sequent, base being the next node
+abbrev pub firedAll : List ℕ → ℕ → ℕ → List Rec → Sequent → Fired
+firedAll f nf base w q =
+    fire (book f nf) (unorderedIn w (q .level) (q .unordered)) base (unorderedIn w (q .level) (q .unordered))
+
+-- the lists hold a sequent of search; end is one past the nodes of all that fire, for which there is room
+pub record MayFire (m : Limits) (x : Lent) (s : State) (q : Sequent) (end : ℕ) : Type 0 where
+  pub rep : Rep m x s q
+  pub none : q .ordered ≡ 0
+  pub last : end ≡ s .terms + firingIn (x .words) (x .records) (q .level) (q .unordered) (q .unordered)
+  pub few : end ≤ 16384
+
+-- the lists t and w and the sequent p after all have fired from t0, w0 and q
+pub record Fell (m : Limits) (f : List ℕ) (nf base : ℕ) (t0 : List ℕ) (w0 : List Rec) (q : Sequent) (t : List ℕ) (w : List Rec)
+    (p : Sequent) : Type 0 where
+  pub seats : Seats m nf (base + length (firedAll f nf base w0 q .nodes)) w p (firedAll f nf base w0 q .kept) (firedAll f nf base w0 q .new)
+  pub level : p .level ≡ q .level
+  pub goal : p .goal ≡ q .goal
+  pub lower : Same Area.none (q .level * stretch) w0 w
+  pub numbers : t ≡ putNodes t0 base (pieces (firedAll f nf base w0 q .nodes))
