@@ -2,12 +2,12 @@
 -- mean, and says what the part means. Assumes nothing.
 use Prim.Native.Nat.{ℕ, _+_, _≤_, _<_}
 use mathlib.Core.Path.{_≡_, refl, ap₂}
-use mathlib.Core.List.{List, []}
+use mathlib.Core.List.{List}
 use native.Mathlib.Omega.{arith}
 use lib.ListN.{length}
 use Rattle.theory.specs.Form.{Book}
 use Rattle.theory.specs.Term.{Node, Piece, Rule, node}
-use Rattle.theory.specs.World.{Tree, world}
+use Rattle.theory.specs.World.{Tree}
 use Rattle.theory.specs.Meter as M
 use Rattle.theory.specs.Meter.{limited, charge, andThen, attempt, count}
 use Rattle.theory.specs.Search.{close, rule}
@@ -80,6 +80,12 @@ pub back-kept : {m : Limits} {x y z : Lent} {s s2 : State} {q : Sequent} {r : An
     Kept m x s q r z
 back-kept {r = r} b k =
     kept-on r (frame-less (omega arith) (omega arith) (omega arith) (b .frame)) (b .formulas-up) (b .terms-up) (omega arith) k
+
+-- the state before a try with the indices and steps after it
+pub shows-back : {m : Limits} {x y : Lent} {s : State} (s2 : State) {q : Sequent} {S : M.State} → Back m x s q (returned s s2) y → Shows x s S →
+    Shows y (returned s s2) (restart S (s2 .indices) (s2 .steps))
+shows-back s2 back sh =
+    let b = shows-after (back .frame) sh in record { words = b .words; nodes = b .nodes; many = b .many; used = refl; steps = refl }
 
 -- the sequent, the words and the nodes of the conclusion at fills that are not lower
 back-at : {m : Limits} {x y : Lent} {s s2 : State} {q : Sequent} → Rep m x s q → Frame x (s .formulas) (s .terms) (q .level + 1) y →
@@ -160,38 +166,38 @@ module _ {j : M.Judgement} {m : Limits} {taken : List (List ℕ)} {x x1 y : Lent
       kept = back-kept (back-found mk rep up (p .kept)) (g .kept);
     }
 
-  module _ (k : ℕ → ℕ → M.State → M.Answer) (o : ℕ → Tree → M.State → M.Answer) where
+  -- what a try goes on with may look back at the state before it
+  module _ (k : M.State → ℕ → ℕ → M.State → M.Answer) (o : M.State → ℕ → Tree → M.State → M.Answer) where
     -- a try that runs short
     pub gives-try-short : {n : ℕ} {s2 : State} → Meets j m taken x1 s1 q1 (Short n s2) y →
-        Gives (λ d S. charge (limitsOf m) u ws ns Q S (λ S1. attempt S (asks m taken d j Q S1) (k d) (o d))) m x s q (Short n s2) y
+        Gives (λ d S. charge (limitsOf m) u ws ns Q S (λ S1. attempt S (asks m taken d j Q S1) (k S d) (o S d))) m x s q (Short n s2) y
     gives-try-short p = record {
-      means = λ S sh. paid mk (λ d S1. attempt S (asks m taken d j Q S1) (k d) (o d)) sh (try-short S k o (asks-made p sh));
+      means = λ S sh. paid mk (λ d S1. attempt S (asks m taken d j Q S1) (k S d) (o S d)) sh (try-short S (k S) (o S) (asks-made p sh));
       kept = made-kept mk (p .kept);
     }
 
     -- a try that is found, and the rest
     pub gives-try-found : {i : ℕ} {s2 : State} {r : Answer} {z : Lent} → Rep m x s q → q .level < q1 .level →
-        Meets j m taken x1 s1 q1 (Found i s2) y → Gives (λ d S. k d i S) m y s2 q r z →
-        Gives (λ d S. charge (limitsOf m) u ws ns Q S (λ S1. attempt S (asks m taken d j Q S1) (k d) (o d))) m x s q r z
-    gives-try-found rep up p g = record {
-      means = λ S sh. paid mk (λ d S1. attempt S (asks m taken d j Q S1) (k d) (o d)) sh (try-found S k o (asks-made p sh) (g .means));
-      kept = back-kept (back-found mk rep up (p .kept)) (g .kept);
+        Meets j m taken x1 s1 q1 (Found i s2) y → Kept m y s2 q r z →
+        ((S : M.State) → Shows x s S → (S2 : M.State) → Shows y s2 S2 → Comes z r (λ d. k S d i S2)) →
+        Gives (λ d S. charge (limitsOf m) u ws ns Q S (λ S1. attempt S (asks m taken d j Q S1) (k S d) (o S d))) m x s q r z
+    gives-try-found rep up p kept g = record {
+      means = λ S sh. paid mk (λ d S1. attempt S (asks m taken d j Q S1) (k S d) (o S d)) sh
+          (try-found S (k S) (o S) (asks-made p sh) (g S sh));
+      kept = back-kept (back-found mk rep up (p .kept)) kept;
     }
 
     -- a try that fails, and what comes after it, whatever its tree of worlds
     pub gives-try-failed : {s2 : State} {r : Answer} {z : Lent} → Rep m x s q → q .level < q1 .level →
-        Meets j m taken x1 s1 q1 (Failed s2) y → ((K : Tree) → Gives (λ d S. o d K S) m y (returned s s2) q r z) →
-        Gives (λ d S. charge (limitsOf m) u ws ns Q S (λ S1. attempt S (asks m taken d j Q S1) (k d) (o d))) m x s q r z
-    gives-try-failed {s2} rep up p g = record {
-      means = λ S sh. paid mk (λ d S1. attempt S (asks m taken d j Q S1) (k d) (o d)) sh (try-failed S k o (asks-made p sh)
-          (λ K. g K .means (restart S (s2 .indices) (s2 .steps)) (shows-back S sh)));
-      kept = back-kept back (g (world []) .kept);
+        Meets j m taken x1 s1 q1 (Failed s2) y → Kept m y (returned s s2) q r z →
+        ((S : M.State) → Shows y (returned s s2) (restart S (s2 .indices) (s2 .steps)) → (K : Tree) →
+        Comes z r (λ d. o S d K (restart S (s2 .indices) (s2 .steps)))) →
+        Gives (λ d S. charge (limitsOf m) u ws ns Q S (λ S1. attempt S (asks m taken d j Q S1) (k S d) (o S d))) m x s q r z
+    gives-try-failed {s2} rep up p kept g = record {
+      means = λ S sh. paid mk (λ d S1. attempt S (asks m taken d j Q S1) (k S d) (o S d)) sh
+          (try-failed S (k S) (o S) (asks-made p sh) (g S (shows-back s2 back sh)));
+      kept = back-kept back kept;
     }
       where
         back : Back m x s q (returned s s2) y
         back = back-failed mk rep up (p .kept)
-
-        shows-back : (S : M.State) → Shows x s S → Shows y (returned s s2) (restart S (s2 .indices) (s2 .steps))
-        shows-back S sh =
-            let b = shows-after (back .frame) sh in
-            record { words = b .words; nodes = b .nodes; many = b .many; used = refl; steps = refl }

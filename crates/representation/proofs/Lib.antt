@@ -25,3 +25,4 @@ pub mod Falls
 pub mod FallsLeft
 pub mod FallsNew
 pub mod FallsRight
+pub mod Halves
