@@ -23,7 +23,7 @@ use Rattle.representation.specs.Reading.{Lent, lent, seqOf, Shows}
 use Rattle.representation.specs.Keeping.{Laid, Rep, Within, Frame, Kept}
 use Rattle.representation.specs.Meaning.{Comes, asks, Meets, Goes, Gives}
 use Rattle.representation.specs.Closing.{Closes}
-use Rattle.representation.specs.Making.{Made, Tested}
+use Rattle.representation.specs.Making.{Made, Tested, Back}
 use Rattle.representation.proofs.Same.{frame-refl, frame-less, frame-trans, rooms-after, laid-same, seats-same}
 use Rattle.representation.proofs.Seat.{seats-more, seats-own}
 use Rattle.representation.proofs.Combine.{Lost, comes-as, premise, then-lost, then-found, try-short, try-found, try-failed, kept-on}
@@ -68,27 +68,21 @@ gives-short ws ns Q k e z ef et ec el i = record {
   kept = record { frame = frame-refl; within = i; after = tt };
 }
 
--- the conclusion's own sequent is still there after a premise a level up
-pub record Back (m : Limits) (x : Lent) (s : State) (q : Sequent) (s2 : State) (y : Lent) : Type 0 where
-  pub rep : Rep m y s2 q
-  pub frame : Frame x (s .formulas) (s .terms) (q .level + 1) y
-  pub formulas-up : s .formulas ≤ s2 .formulas
-  pub terms-up : s .terms ≤ s2 .terms
-  pub seq : seqOf (y .records) q ≡ seqOf (x .records) q
-
+-- what comes after it is the conclusion's
 pub back-kept : {m : Limits} {x y z : Lent} {s s2 : State} {q : Sequent} {r : Answer} → Back m x s q s2 y → Kept m y s2 q r z →
     Kept m x s q r z
 back-kept {r = r} b k =
     kept-on r (frame-less (omega arith) (omega arith) (omega arith) (b .frame)) (b .formulas-up) (b .terms-up) (omega arith) k
 
 -- the state before a try with the indices and steps after it
-pub shows-back : {m : Limits} {x y : Lent} {s : State} (s2 : State) {q : Sequent} {S : M.State} → Back m x s q (returned s s2) y → Shows x s S →
+pub shows-back : {m : Limits} {x y : Lent} {s : State} (s2 : State) {q : Sequent} {S : M.State} → Back m x s q (returned s s2) y →
+    Shows x s S →
     Shows y (returned s s2) (restart S (s2 .indices) (s2 .steps))
 shows-back s2 back sh =
     let b = shows-after (back .frame) sh in record { words = b .words; nodes = b .nodes; many = b .many; used = refl; steps = refl }
 
 -- the sequent, the words and the nodes of the conclusion at fills that are not lower
-back-at : {m : Limits} {x y : Lent} {s s2 : State} {q : Sequent} → Rep m x s q → Frame x (s .formulas) (s .terms) (q .level + 1) y →
+pub back-at : {m : Limits} {x y : Lent} {s s2 : State} {q : Sequent} → Rep m x s q → Frame x (s .formulas) (s .terms) (q .level + 1) y →
     Within m s2 → Laid (y .words) (s2 .formulas) → s .formulas ≤ s2 .formulas → s .terms ≤ s2 .terms → Back m x s q s2 y
 back-at {m} {x} {y} {s} {s2} {q} rep f within ly hf ht =
     let seats = seats-more (seats-same {l = q .level + 1} (f .records) (omega arith) (rep .seats)) hf ht in
@@ -103,7 +97,7 @@ back-at {m} {x} {y} {s} {s2} {q} rep f within ly hf ht =
 
 module _ {m : Limits} {x x1 y : Lent} {s s1 : State} {q q1 : Sequent} {u : ℕ} {ws : Book} {ns : List Node} {Q : M.Sequent}
     (mk : Made m x s q u ws ns Q x1 s1 q1) where
-  after-made : {r : Answer} → Kept m x1 s1 q1 r y → Frame x (s .formulas) (s .terms) (q1 .level) y
+  pub after-made : {r : Answer} → Kept m x1 s1 q1 r y → Frame x (s .formulas) (s .terms) (q1 .level) y
   after-made k = frame-trans (mk .formulas-up) (mk .terms-up) (omega arith) (mk .frame) (k .frame)
 
   pub made-kept : {r : Answer} → Kept m x1 s1 q1 r y → Kept m x s q r y
@@ -131,7 +125,7 @@ module _ {m : Limits} {x x1 y : Lent} {s s1 : State} {q q1 : Sequent} {u : ℕ} 
         (laid-same (f .words) (rep .laid)) (omega arith) (omega arith)
 
 -- a charge paid, and the rest
-paid : {m : Limits} {x x1 z : Lent} {s s1 : State} {q q1 : Sequent} {u : ℕ} {ws : Book} {ns : List Node} {Q : M.Sequent} {r : Answer}
+pub paid : {m : Limits} {x x1 z : Lent} {s s1 : State} {q q1 : Sequent} {u : ℕ} {ws : Book} {ns : List Node} {Q : M.Sequent} {r : Answer}
     {S : M.State} → Made m x s q u ws ns Q x1 s1 q1 → (k : ℕ → M.State → M.Answer) → Shows x s S → Comes z r (λ d. k d (made S u ws ns)) →
     Comes z r (λ d. charge (limitsOf m) u ws ns Q S (k d))
 paid {m} {u = u} {ws} {ns} {Q} {S = S} mk k sh c =
@@ -139,7 +133,7 @@ paid {m} {u = u} {ws} {ns} {Q} {S = S} mk k sh c =
 
 module _ {j : M.Judgement} {m : Limits} {taken : List (List ℕ)} {x x1 y : Lent} {s s1 : State} {q q1 : Sequent} {u : ℕ} {ws : Book}
     {ns : List Node} {Q : M.Sequent} (mk : Made m x s q u ws ns Q x1 s1 q1) where
-  asks-made : {r : Answer} → Meets j m taken x1 s1 q1 r y → {S : M.State} → Shows x s S → Comes y r
+  pub asks-made : {r : Answer} → Meets j m taken x1 s1 q1 r y → {S : M.State} → Shows x s S → Comes y r
       (λ d. asks m taken d j Q (made S u ws ns))
   asks-made p {S} sh = premise p (mk .next) (mk .shows S sh)
 

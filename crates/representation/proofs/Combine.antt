@@ -204,3 +204,48 @@ module _ {j : M.Judgement} {m : Limits} {taken : List (List ℕ)} {x : Lent} {s 
           go zero k = absurd (not-suc-le-zero k)
           go (suc d) k =
               run-goes m taken d j (seqOf (x .records) q) S (omega (arith, sh .steps)) ∙ c .settles d (le-of-suc-le-suc k)
+
+-- the tree of worlds of a failed try, and what comes after it
+pub record FailsAs (S : M.State) (s : State) (C : ℕ → M.Answer) : Type 0 where
+  pub tree : Tree
+  pub carries : (k : ℕ → ℕ → M.State → M.Answer) (o : ℕ → Tree → M.State → M.Answer) {z : Lent} {r : Answer} →
+      Comes z r (λ d. o d tree (restart S (s .indices) (s .steps))) → Comes z r (λ d. attempt S (C d) (k d) (o d))
+
+pub fails-as : {y : Lent} {s : State} {C : ℕ → M.Answer} (S : M.State) → Comes y (Failed s) C → FailsAs S s C
+unfolding attempt
+fails-as {y} {s} {C} S x = go (x .says) refl
+  where
+    go : {a : M.Answer} → Says y (Failed s) a → x .answer ≡ a → FailsAs S s C
+    go (says-failed K eu en) e = record {
+      tree = K;
+      carries = λ k o c. record {
+        answer = c .answer;
+        depth = x .depth + c .depth;
+        settles = λ d h. ap (λ (a : M.Answer). attempt S a (k d) (o d)) (x .settles d (omega arith) ∙ e)
+            ∙ ap₂ (λ (u n : ℕ). o d K (restart S u n)) eu en ∙ c .settles d (omega arith);
+        says = c .says;
+      };
+    }
+
+-- the state of a found try, and what comes after it
+pub record FindsAs (y : Lent) (i : ℕ) (s : State) (C : ℕ → M.Answer) : Type 0 where
+  pub state : M.State
+  pub shows : Shows y s state
+  pub carries : (S : M.State) (k : ℕ → ℕ → M.State → M.Answer) (o : ℕ → Tree → M.State → M.Answer) {z : Lent} {r : Answer} →
+      Comes z r (λ d. k d i state) → Comes z r (λ d. attempt S (C d) (k d) (o d))
+
+pub finds-as : {y : Lent} {i : ℕ} {s : State} {C : ℕ → M.Answer} → Comes y (Found i s) C → FindsAs y i s C
+unfolding attempt
+finds-as {y} {i} {s} {C} x = go (x .says) refl
+  where
+    go : {a : M.Answer} → Says y (Found i s) a → x .answer ≡ a → FindsAs y i s C
+    go (says-found {S = S1} sh) e = record {
+      state = S1;
+      shows = sh;
+      carries = λ S k o c. record {
+        answer = c .answer;
+        depth = x .depth + c .depth;
+        settles = λ d h. ap (λ (a : M.Answer). attempt S a (k d) (o d)) (x .settles d (omega arith) ∙ e) ∙ c .settles d (omega arith);
+        says = c .says;
+      };
+    }

@@ -19,12 +19,11 @@ use Rattle.representation.specs.Tables.{upto, downto, from}
 use Rattle.representation.specs.Reading.{Lent, shapeAt, book, entryAt, unorderedIn, orderedIn, seqOf}
 use Rattle.representation.specs.Keeping.{Same, Rep}
 use Rattle.representation.specs.Meaning.{weigh}
-use Rattle.representation.specs.Making.{Made, Moved}
+use Rattle.representation.specs.Making.{Made, Moved, Back}
 use Rattle.representation.proofs.Tables.{upto-split}
 use Rattle.representation.proofs.Same.{book-same}
 use Rattle.representation.proofs.Charge.{book-length}
 use Rattle.representation.proofs.Look.{book-at, children}
-use Rattle.representation.proofs.Branch.{Back}
 
 module _ (B : Book) where
   each-append : (es fs : List M.Entry) → EachIn B es → EachIn B fs → EachIn B (es ++ fs)

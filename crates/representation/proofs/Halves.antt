@@ -92,7 +92,8 @@ module _ {m : Limits} (taken : List (List ℕ)) {x : Lent} {s : State} {q : Sequ
 
     or-by : (S : M.State) → Shows x s S → (d : ℕ) → tries m taken (seqOf (x .records) q) d S ≡
         charge (limitsOf m) (s .indices) [] [] (goalUp (seqOf (x .records) q) (leftAt (x .words) (q .goal))) S
-        (λ S1. attempt S (asks m taken d M.byRight (goalUp (seqOf (x .records) q) (leftAt (x .words) (q .goal))) S1) (inlEnd m d) (afterFirst S d))
+        (λ S1. attempt S (asks m taken d M.byRight (goalUp (seqOf (x .records) q) (leftAt (x .words) (q .goal))) S1) (inlEnd m d)
+        (afterFirst S d))
     unfolding halves inlEnd inrEnd ranging
     or-by S sh d = tries-by or-shape S sh d ∙ rw (sh .used)
 
@@ -175,5 +176,6 @@ module _ {m : Limits} (taken : List (List ℕ)) {x : Lent} {s : State} {q : Sequ
               (λ S sh l. comes-as (λ d. afterSecond K S d l (restart S (s2 .indices) (s2 .steps)))
               (λ d. ap (λ (Q : M.Sequent). ranging m taken Q (soFar (graft (graft (bare (S .words) (seqOf (x .records) q)) K) l)) d
               (restart S (s2 .indices) (s2 .steps))) (sym (back .seq)))
-              (g .gives (soFar (graft (graft (bare (S .words) (seqOf (x .records) q)) K) l)) .means (restart S (s2 .indices) (s2 .steps)) sh)));
+              (g .gives (soFar (graft (graft (bare (S .words) (seqOf (x .records) q)) K) l)) .means
+              (restart S (s2 .indices) (s2 .steps)) sh)));
         }

@@ -21,7 +21,7 @@ use Rattle.context.specs.Area.{Rec, rec, raised, pushPlace}
 use Rattle.representation.specs.Reading.{Lent, lent, kindAt, leftAt, rightAt, shapeAt, entryAt, orderedIn, seqOf, Shows, putNodes}
 use Rattle.representation.specs.Keeping.{Rep}
 use Rattle.representation.specs.Meaning.{asks, Meets, Goes, Gives}
-use Rattle.representation.specs.Making.{Tested, Made}
+use Rattle.representation.specs.Making.{Tested, Made, Back}
 use Rattle.representation.specs.Closing.{Closes}
 use Rattle.representation.specs.Parts.{orNext, orEnd, orSecond}
 use Rattle.representation.proofs.Seat.{unordered-length, ordered-length, ordered-pop}
@@ -29,7 +29,7 @@ use Rattle.representation.proofs.Areas.{fields, area-up, area-push}
 use Rattle.representation.proofs.Write.{words-none}
 use Rattle.representation.proofs.Charge.{passes}
 use Rattle.representation.proofs.Making.{made-of}
-use Rattle.representation.proofs.Branch.{Back, gives-as, goes-by, gives-close, gives-short, gives-lost, gives-found, back-found}
+use Rattle.representation.proofs.Branch.{gives-as, goes-by, gives-close, gives-short, gives-lost, gives-found, back-found}
 use Rattle.representation.proofs.Combine.{Lost}
 use Rattle.representation.proofs.Look.{shape-as, children, fits16}
 use Rattle.representation.proofs.Left.{topFormula, topTerm, others, top-inside, left-by, area-top}

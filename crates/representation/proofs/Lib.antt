@@ -26,3 +26,6 @@ pub mod FallsLeft
 pub mod FallsNew
 pub mod FallsRight
 pub mod Halves
+pub mod Four
+pub mod FourWays
+pub mod Ranging

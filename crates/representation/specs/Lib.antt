@@ -7,3 +7,4 @@ pub mod Making
 pub mod Closing
 pub mod Parts
 pub mod Turning
+pub mod Trying

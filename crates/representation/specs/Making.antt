@@ -46,3 +46,11 @@ pub record Moved (m : Limits) (x : Lent) (s : State) (q : Sequent) (Q : M.Sequen
   pub frame : Frame x (s .formulas) (s .terms) (q1 .level) x1
   pub level-up : q .level ≤ q1 .level
   pub next : Q ≡ seqOf (x1 .records) q1
+
+-- the conclusion's own sequent is still there after a premise a level up
+pub record Back (m : Limits) (x : Lent) (s : State) (q : Sequent) (s2 : State) (y : Lent) : Type 0 where
+  pub rep : Rep m y s2 q
+  pub frame : Frame x (s .formulas) (s .terms) (q .level + 1) y
+  pub formulas-up : s .formulas ≤ s2 .formulas
+  pub terms-up : s .terms ≤ s2 .terms
+  pub seq : seqOf (y .records) q ≡ seqOf (x .records) q
