@@ -14,8 +14,6 @@ const MOST_WORDS: usize = 16384;
 
 const MOST_NODES: usize = 16384;
 
-const NODE_WIDTH: usize = 6;
-
 const WORK_RECORDS: usize = 16384;
 
 const HIGHEST_LEVEL: usize = 63;
@@ -244,8 +242,8 @@ pub fn formula_sizes(room: usize, count: usize) -> bool
 pub fn term_sizes(room: usize) -> bool
     ensures { λ r. ⌜ r ≡ termSizes room ⌝ }
 {
-    if room % NODE_WIDTH == 0 {
-        room <= MOST_NODES * NODE_WIDTH
+    if room % proof_term::WIDTH == 0 {
+        room <= MOST_NODES * proof_term::WIDTH
     } else {
         false
     }
@@ -256,7 +254,7 @@ pub fn node_sizes(room: usize, nodes: usize) -> bool
     ensures { λ r. ⌜ r ≡ nodeSizes room nodes ⌝ }
 {
     if term_sizes(room) {
-        nodes <= room / NODE_WIDTH
+        nodes <= room / proof_term::WIDTH
     } else {
         false
     }
