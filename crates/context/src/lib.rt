@@ -5,8 +5,9 @@ ghost use mathlib.Core.Path.{_≡_};
 ghost use Prim.Native.Nat.{_+_, _-_, _*_, _%_, _≤_, _<_};
 ghost use lib.ListN.{length, getD, set, replicate};
 ghost use Rattle.theory.specs.Meter.{lacking};
-ghost use Rattle.context.specs.Area.{none, rec, zeroed, formulaAt, termAt, copies, shifts, raised, pushPlace, appendPlace, removed, topPlace};
-ghost use Rattle.context.specs.Moves.{stretch, most, stepped, spent, returned, upped, pushed, popped, appended, without, limitsOf};
+ghost use Rattle.context.specs.Area.{none, rec, zeroed, formulaAt, termAt, copies, shifts, raised};
+ghost use Rattle.context.specs.Area.{pushPlace, appendPlace, removed, topPlace};
+ghost use Rattle.context.specs.Moves.{stretch, stepped, spent, returned, upped, pushed, popped, appended, without, limitsOf};
 ghost use Rattle.context.specs.Moves.{numberOf};
 
 // Records in a stretch, over both contexts.

@@ -19,6 +19,7 @@ use Rattle.representation.specs.Tables.{upto, downto, from}
 use Rattle.representation.specs.Reading.{Lent, shapeAt, book, entryAt, unorderedIn, orderedIn, seqOf}
 use Rattle.representation.specs.Keeping.{Same, Rep}
 use Rattle.representation.specs.Meaning.{weigh}
+use Rattle.representation.specs.Trying.{recordsBefore, recordsFrom}
 use Rattle.representation.specs.Making.{Made, Moved, Back}
 use Rattle.representation.proofs.Tables.{upto-split}
 use Rattle.representation.proofs.Same.{book-same}
@@ -39,6 +40,15 @@ module _ (B : Book) where
   unfolding downto
   each-downto g zero h = tt
   each-downto g (suc n) h = (h n (omega arith), each-downto g n (λ i k. h i (omega arith)))
+
+  each-from : (g : ℕ → M.Entry) (i n : ℕ) → ((k : ℕ) → k < n → g (i + k) .formula < length B) → EachIn B (from g i n)
+  unfolding from
+  each-from g i zero h = tt
+  each-from g i (suc n) h = (
+    subst (λ (j : ℕ). g j .formula < length B) (let p : i + 0 ≡ i = omega arith in p) (h 0 (omega arith)),
+    each-from g (suc i) n (λ k l. subst (λ (j : ℕ). g j .formula < length B) (let p : i + suc k ≡ suc i + k = omega arith in p)
+        (h (suc k) (omega arith))),
+  )
 
   pub reads-each : (es : List M.Entry) → EachIn B es → Reads B es (formsOf B es)
   reads-each [] a = no-more
@@ -99,6 +109,17 @@ module _ {m : Limits} {x : Lent} {s : State} {q : Sequent} (rep : Rep m x s q) w
   unfolding unorderedIn entryAt
   reads-unordered = reads-each (bookOf x s) _ (each-upto (bookOf x s) _ (q .unordered)
       (λ i h. inside (rep .seats .unordered-in i h .formula-in)))
+
+  -- the unordered records before a place, and from a place on
+  pub reads-before : (i : ℕ) → i ≤ q .unordered → Reads (bookOf x s) (recordsBefore x q i) (formsOf (bookOf x s) (recordsBefore x q i))
+  unfolding unorderedIn entryAt
+  reads-before i l = reads-each (bookOf x s) _ (each-upto (bookOf x s) _ i
+      (λ j h. inside (rep .seats .unordered-in j (omega arith) .formula-in)))
+
+  pub reads-from : (i : ℕ) → i ≤ q .unordered → Reads (bookOf x s) (recordsFrom x q i) (formsOf (bookOf x s) (recordsFrom x q i))
+  unfolding entryAt
+  reads-from i l = reads-each (bookOf x s) _ (each-from (bookOf x s) _ i (q .unordered - i)
+      (λ j h. inside (rep .seats .unordered-in (i + j) (omega arith) .formula-in)))
 
   pub reads-ordered : (k : ℕ) → k ≤ q .ordered →
       Reads (bookOf x s) (orderedIn (x .records) (q .level) k) (formsOf (bookOf x s) (orderedIn (x .records) (q .level) k))

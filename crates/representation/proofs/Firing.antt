@@ -296,7 +296,8 @@ module _ (m : Limits) (f : List ℕ) (nf : ℕ) (laid : Laid f nf) (long-f : nf 
                 omega (arith, parts-in f nf laid long-f a (inside i in-p) five, inside i in-p)
 
   -- at the front everything has fired as the search as written says
-  pub fall-ends : {n : ℕ} {t : List ℕ} {w : List Rec} {p : Sequent} → FallenTo m f nf base t0 w0 q 0 n t w p → Fell m f nf base t0 w0 q t w p
+  pub fall-ends : {n : ℕ} {t : List ℕ} {w : List Rec} {p : Sequent} → FallenTo m f nf base t0 w0 q 0 n t w p →
+      Fell m f nf base t0 w0 q t w p
   unfolding firing
   fall-ends {n} {t} {w} {p} x = go (x .front) (x .long) (x .so)
     where

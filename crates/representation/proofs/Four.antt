@@ -81,7 +81,7 @@ module _ {m : Limits} (taken : List (List ℕ)) {x : Lent} {s : State} {q : Sequ
   pub record-in : Inside (s .formulas) (s .terms) (x .records) (placeOf q i)
   record-in = rep .seats .unordered-in i here
 
-  nothing-left : seqOf (x .records) q .ordered ≡ []
+  pub nothing-left : seqOf (x .records) q .ordered ≡ []
   unfolding orderedIn downto
   nothing-left = ap (downto (λ j. entryAt (x .records) (q .level * stretch + stretch - 1 - j))) none-left
 

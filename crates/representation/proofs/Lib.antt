@@ -29,3 +29,4 @@ pub mod Halves
 pub mod Four
 pub mod FourWays
 pub mod Ranging
+pub mod FallsFour
