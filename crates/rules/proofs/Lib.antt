@@ -1,2 +1,5 @@
 pub mod Written
 pub mod Nests
+pub mod Charged
+pub mod LeftTurns
+pub mod LeftMakes
