@@ -30,3 +30,6 @@ pub mod Four
 pub mod FourWays
 pub mod Ranging
 pub mod FallsFour
+pub mod Start
+pub mod Whole
+pub mod Ending

@@ -32,7 +32,7 @@ use Rattle.representation.proofs.Write.{put-same, put-more, AllFit, Wor
 use Rattle.representation.proofs.Combine.{comes-now}
 use Rattle.representation.proofs.Charge.{words-many}
 
-by-length : (r : Rule) (ps : List Piece) → length (by r ps) ≡ length ps
+pub by-length : (r : Rule) (ps : List Piece) → length (by r ps) ≡ length ps
 by-length r [] = refl
 by-length r (p ∷ ps) = ap suc (by-length r ps)
 
