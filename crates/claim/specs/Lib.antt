@@ -1,3 +1,4 @@
 pub mod Lent
 pub mod Start
 pub mod Outcomes
+pub mod Whole
