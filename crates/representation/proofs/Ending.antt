@@ -24,18 +24,17 @@ use Rattle.representation.specs.Tables.{upto}
 use Rattle.representation.specs.Reading.{Lent, shapeAt, book, Shows}
 use Rattle.representation.specs.Keeping.{Laid}
 use Rattle.representation.specs.Meaning.{Says, says-found, says-failed, says-short, Comes}
-use Rattle.representation.proofs.Making.{by-length}
+use Rattle.representation.proofs.Whole.{idents-length}
 use Rattle.representation.proofs.Combine.{comes-now}
-use Rattle.representation.proofs.Start.{identPieces, idents-by, identPieces-length}
 
 -- no room for the assumptions' Idents
 pub whole-short : (m : Limits) (taken : List (List ℕ)) {x : Lent} {s : State} (ws : Book) (hs : List ℕ) (g : ℕ) → m .terms < length hs →
     s .steps ≡ 0 → Comes x (Short 9 s) (λ d. whole (limited (limitsOf m)) taken d ws hs g)
 unfolding whole given spend fits lackNumber
 whole-short m taken ws hs g h e =
-    let n : length (idents 0 hs) ≡ length hs = ap length (idents-by 0 hs) ∙ by-length _ (identPieces 0 hs) ∙ identPieces-length 0 hs in
     comes-now (λ d. whole (limited (limitsOf m)) taken d ws hs g)
-    (λ d. rw (whole, spend, lt-leb (0 + length (idents 0 hs)) (m .terms) (omega arith))) (says-short M.Terms refl (sym e))
+    (λ d. rw (whole, spend, lt-leb (0 + length (idents 0 hs)) (m .terms) (omega (arith, idents-length 0 hs))))
+    (says-short M.Terms refl (sym e))
 
 -- what an answer of the code says is not unfinished
 finished : {y : Lent} {r : Answer} {a : M.Answer} → Says y r a → a ≢ M.unfinished

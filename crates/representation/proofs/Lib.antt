@@ -33,3 +33,4 @@ pub mod FallsFour
 pub mod Start
 pub mod Whole
 pub mod Ending
+pub mod Onwards
