@@ -38,11 +38,6 @@ pub area-start : {m : Limits} {x : Lent} {s : State} {q : Sequent} {nf nt : ℕ}
     Area m nf nt l (x .records) (x .records) q (seqOf (x .records) q .unordered) (seqOf (x .records) q .ordered)
 area-start l rep hf ht = record { same = same-refl; room = rep .rooms .records-room; seats = seats-more (rep .seats) hf ht }
 
--- higher fills
-pub area-more : {m : Limits} {nf nt nf1 nt1 l : ℕ} {w0 w : List Rec} {q : Sequent} {us os : List Entry} → Area m nf nt l w0 w q us os →
-    nf ≤ nf1 → nt ≤ nt1 → Area m nf1 nt1 l w0 w q us os
-area-more x hf ht = record { same = x .same; room = x .room; seats = seats-more (x .seats) hf ht }
-
 module _ {m : Limits} {nf nt l : ℕ} {w0 w : List Rec} {q : Sequent} {us : List Entry} where
   -- the last ordered record is e
   pub area-pop : {e : Entry} {os : List Entry} {q1 : Sequent} → q1 ≡ popped q → Area m nf nt l w0 w q us (e ∷ os) →

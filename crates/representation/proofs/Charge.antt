@@ -33,21 +33,6 @@ book-length f n = upto-length _ n
 pub words-many : {x : Lent} {s : State} {S : M.State} → Shows x s S → length (S .words) ≡ s .formulas
 words-many {x} {s} sh = ap length (sh .words) ∙ book-length (x .words) (s .formulas)
 
-lack-some : (l : M.Lack) → lackNumber l ≡ 0 → ⊥
-unfolding lackNumber
-lack-some M.Steps e = omega arith
-lack-some M.Names e = omega arith
-lack-some M.Formulas e = omega arith
-lack-some M.Terms e = omega arith
-lack-some M.Contexts e = omega arith
-lack-some M.Levels e = omega arith
-
--- the number of a shortage tells whether there is one
-pub number-none : {n : ℕ} (o : Option M.Lack) → n ≡ numberOf o → n ≡ 0 → o ≡ none
-unfolding numberOf
-number-none none e z = refl
-number-none (some l) e z = absurd (lack-some l (sym e ∙ z))
-
 -- the tests one by one
 lackIn : Bool → Bool → Bool → Bool → Bool → Option M.Lack
 lackIn a b c d e =

@@ -30,7 +30,4 @@ pub mod Four
 pub mod FourWays
 pub mod Ranging
 pub mod FallsFour
-pub mod Start
-pub mod Whole
-pub mod Ending
 pub mod Onwards
