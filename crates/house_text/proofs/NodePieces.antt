@@ -1,0 +1,126 @@
+-- The piece of a node by its kind: a name, or a keyword and its fields. Assumes nothing.
+use Prim.Native.Nat.{ℕ, zero, suc, _-_, _≤_, _<_}
+use mathlib.Core.Path.{_≡_, refl, sym}
+use mathlib.Core.Option.{Option, none, some}
+use mathlib.Core.List.{List, [], _∷_, _++_}
+use native.Mathlib.Omega.{arith}
+use borrow.Author.Tests.{lt-ltb, le-ltb}
+use lib.ListN.{getD}
+use Rattle.theory.specs.Form.{form}
+use Rattle.theory.specs.Term.{Term, Ident, Pair, Fst, Snd, Fn, App, Inl, Inr, Case, Abort, Asc, Unit′, term}
+use Rattle.theory.specs.Names.{spell, bytesOf}
+use Rattle.theory.specs.Layout.{Field, fieldsOf, pieceOf}
+use Rattle.theory.specs.Text.{bytes, formText, termText}
+use Rattle.theory.specs.Writer.{formDepth, termDepth}
+use Rattle.theory.proofs.TextByNode.{pieceText, pieceDepth}
+use Rattle.house_text.specs.Laid.{joined}
+use Rattle.house_text.specs.Pieces.{upTo, book, nodes, formPiece, termPiece, fieldPiece, keywords, keyword}
+use Rattle.house_text.proofs.Levels.{Whole, whole, above, alone, before-it, behind-it, beside, too-deep}
+
+-- the bytes of a name, by the side that it stands on
+pub assumed-bytes : (names : List (List ℕ)) (x : ℕ) → x < 64 → getD names x [] ≡ bytesOf names x
+unfolding bytesOf
+assumed-bytes names x h = rw (lt-ltb x 64 h, bytesOf)
+
+pub generated-bytes : (names : List (List ℕ)) (x : ℕ) → 64 ≤ x → spell (x - 64) ≡ bytesOf names x
+unfolding bytesOf
+generated-bytes names x h = rw (le-ltb x 64 h, bytesOf)
+
+-- a kind that has no keyword of its own opens with a bracket alone
+pub bracket-alone : (k : ℕ) → (k ≡ 1 → ⊥) → (k ≡ 2 → ⊥) → (k ≡ 3 → ⊥) → (k ≡ 4 → ⊥) → (k ≡ 5 → ⊥) → (k ≡ 7 → ⊥) → (k ≡ 8 → ⊥) →
+    (k ≡ 9 → ⊥) → (k ≡ 10 → ⊥) → (k ≡ 11 → ⊥) → bytes "(" ≡ keyword k
+unfolding keyword keywords
+bracket-alone zero _ _ _ _ _ _ _ _ _ _ = refl
+bracket-alone (suc zero) n _ _ _ _ _ _ _ _ _ = absurd (n refl)
+bracket-alone (suc (suc zero)) _ n _ _ _ _ _ _ _ _ = absurd (n refl)
+bracket-alone (suc (suc (suc zero))) _ _ n _ _ _ _ _ _ _ = absurd (n refl)
+bracket-alone (suc (suc (suc (suc zero)))) _ _ _ n _ _ _ _ _ _ = absurd (n refl)
+bracket-alone (suc (suc (suc (suc (suc zero))))) _ _ _ _ n _ _ _ _ _ = absurd (n refl)
+bracket-alone (suc (suc (suc (suc (suc (suc zero)))))) _ _ _ _ _ _ _ _ _ _ = refl
+bracket-alone (suc (suc (suc (suc (suc (suc (suc zero))))))) _ _ _ _ _ n _ _ _ _ = absurd (n refl)
+bracket-alone (suc (suc (suc (suc (suc (suc (suc (suc zero)))))))) _ _ _ _ _ _ n _ _ _ = absurd (n refl)
+bracket-alone (suc (suc (suc (suc (suc (suc (suc (suc (suc zero))))))))) _ _ _ _ _ _ _ n _ _ = absurd (n refl)
+bracket-alone (suc (suc (suc (suc (suc (suc (suc (suc (suc (suc zero)))))))))) _ _ _ _ _ _ _ _ n _ = absurd (n refl)
+bracket-alone (suc (suc (suc (suc (suc (suc (suc (suc (suc (suc (suc zero))))))))))) _ _ _ _ _ _ _ _ _ n = absurd (n refl)
+bracket-alone (suc (suc (suc (suc (suc (suc (suc (suc (suc (suc (suc (suc k)))))))))))) _ _ _ _ _ _ _ _ _ _ = refl
+
+-- every term has a node
+term-deep : (t : Term) → 0 < termDepth t
+unfolding termDepth
+term-deep (Ident x) = omega arith
+term-deep (Pair s t) = omega arith
+term-deep (Fst t) = omega arith
+term-deep (Snd t) = omega arith
+term-deep (Fn x t) = omega arith
+term-deep (App s t) = omega arith
+term-deep (Inl t) = omega arith
+term-deep (Inr t) = omega arith
+term-deep (Case h x s y t) = omega arith
+term-deep (Abort t) = omega arith
+term-deep (Asc t A) = omega arith
+term-deep Unit′ = omega arith
+
+module _ (words terms : List ℕ) (names : List (List ℕ)) where
+  abbrev pub F : ℕ → List ℕ
+  F a = formText (form (book words) a)
+
+  abbrev pub E : ℕ → ℕ
+  E a = formDepth (form (book words) a)
+
+  abbrev pub T : ℕ → List ℕ
+  T a = termText names (term (book words) (nodes terms) a)
+
+  abbrev pub D : ℕ → ℕ
+  D a = termDepth (term (book words) (nodes terms) a)
+
+  -- no level is left for a term
+  pub no-term : (levels i : ℕ) → levels ≡ 0 → none ≡ termPiece words terms names levels i
+  unfolding termPiece
+  no-term levels i e =
+      let t : Term = term (book words) (nodes terms) i in
+      sym (too-deep levels (termDepth t) (termText names t) (omega (arith, term-deep t)))
+
+  -- the fields of a node, one behind another, and a bracket; a refused kind has none
+  abbrev pub fieldsPiece : ℕ → List Field → List ℕ → Option (List ℕ)
+  fieldsPiece l [] xs = some (bytes ")")
+  fieldsPiece l (f ∷ fs) [] = some (bytes ")")
+  fieldsPiece l (f ∷ fs) (x ∷ xs) = joined (fieldPiece words terms names l f x) (fieldsPiece l fs xs)
+
+  abbrev pub heldPiece : ℕ → Option (List Field) → List ℕ → Option (List ℕ)
+  heldPiece l none xs = some (bytes ")")
+  heldPiece l (some fs) xs = fieldsPiece l fs xs
+
+  module _ (l a b c d e : ℕ) where
+    abbrev pub held : ℕ → Option (List ℕ)
+    held k = joined (some (keyword k)) (heldPiece l (fieldsOf k) (a ∷ b ∷ c ∷ d ∷ e ∷ []))
+
+    -- a child, and a formula, behind a space
+    abbrev sub : (x : ℕ) → Whole (joined (some (bytes " ")) (upTo l (D x) (T x))) l (D x) (bytes " " ++ T x)
+    sub x = before-it (bytes " ") (whole l (D x) (T x))
+
+    abbrev for : (x : ℕ) → Whole (joined (some (bytes " ")) (upTo l (E x) (F x))) l (E x) (bytes " " ++ F x)
+    for x = before-it (bytes " ") (whole l (E x) (F x))
+
+    -- the kinds one by one
+    pub held-piece : (k : ℕ) → (k ≡ 0 → ⊥) →
+        Whole (held k) (suc l) (pieceDepth D E (pieceOf k a b c d e)) (pieceText names T F (pieceOf k a b c d e))
+    unfolding keyword keywords fieldsOf pieceOf fieldPiece formPiece termPiece joined bytes
+    held-piece zero n = absurd (n refl)
+    held-piece (suc zero) n = above (before-it (keyword 1) (beside (sub a) (behind-it (sub b) (bytes ")"))))
+    held-piece (suc (suc zero)) n = above (before-it (keyword 2) (behind-it (sub a) (bytes ")")))
+    held-piece (suc (suc (suc zero))) n = above (before-it (keyword 3) (behind-it (sub a) (bytes ")")))
+    held-piece (suc (suc (suc (suc zero)))) n =
+        above (before-it (keyword 4) (before-it (bytes " " ++ bytesOf names a) (behind-it (sub b) (bytes ")"))))
+    held-piece (suc (suc (suc (suc (suc zero))))) n = above (before-it (keyword 5) (beside (sub a) (behind-it (sub b) (bytes ")"))))
+    held-piece (suc (suc (suc (suc (suc (suc zero)))))) n = alone l (bytes "()")
+    held-piece (suc (suc (suc (suc (suc (suc (suc zero))))))) n = above (before-it (keyword 7) (behind-it (sub a) (bytes ")")))
+    held-piece (suc (suc (suc (suc (suc (suc (suc (suc zero)))))))) n = above (before-it (keyword 8) (behind-it (sub a) (bytes ")")))
+    held-piece (suc (suc (suc (suc (suc (suc (suc (suc (suc zero))))))))) n =
+        above (before-it (keyword 9) (beside (sub a) (before-it (bytes " " ++ bytesOf names b)
+        (beside (sub c) (before-it (bytes " " ++ bytesOf names d) (behind-it (sub e) (bytes ")")))))))
+    held-piece (suc (suc (suc (suc (suc (suc (suc (suc (suc (suc zero)))))))))) n =
+        above (before-it (keyword 10) (behind-it (sub a) (bytes ")")))
+    held-piece (suc (suc (suc (suc (suc (suc (suc (suc (suc (suc (suc zero))))))))))) n =
+        above (before-it (keyword 11) (beside (sub a) (behind-it (for b) (bytes ")"))))
+    held-piece (suc (suc (suc (suc (suc (suc (suc (suc (suc (suc (suc (suc zero)))))))))))) n = alone l (bytes "()")
+    held-piece (suc (suc (suc (suc (suc (suc (suc (suc (suc (suc (suc (suc (suc k))))))))))))) n = alone l (bytes "()")

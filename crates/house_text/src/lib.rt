@@ -1,0 +1,475 @@
+// The writer of the house text of a term: `(pair s t)`, `(fn a t)`, .., laid piece by piece into a lent buffer.
+ghost use mathlib.Core.Path.{_≡_};
+ghost use mathlib.Core.Bool.{_&&_};
+ghost use mathlib.Core.Option.{some};
+ghost use mathlib.Core.List.{[], _∷_, _++_};
+ghost use Prim.Native.Nat.{_-_, _/_, _≤_, _<_};
+ghost use lib.ListN.{length, take, replicate};
+ghost use Rattle.theory.specs.Term.{term};
+ghost use Rattle.theory.specs.Names.{spell, bytesOf};
+ghost use Rattle.theory.specs.NameText.{namesIn};
+ghost use Rattle.theory.specs.Text.{decimal, leafText};
+ghost use Rattle.theory.specs.Layout.{nodeWidth};
+ghost use Rattle.theory.specs.Refusal.{formulaSizes, nodeSizes};
+ghost use Rattle.theory.specs.Writer.{writerRefusal, textFitted, written};
+ghost use Rattle.identifier_generator.specs.Handed.{Hands, HandsPart};
+ghost use Rattle.proof_term.specs.Kinds.{fieldAs};
+ghost use Rattle.house_text.specs.Laid.{Laid};
+ghost use Rattle.house_text.specs.Pieces.{opening, keyword, formPiece, termPiece, fieldPiece, book, nodes, Given, GoodWords, FieldIn};
+ghost use Rattle.house_text.specs.Tested.{draft, refusedBy, numberOf, placeOf};
+use proof_term::Field;
+use proof_term::Fields;
+use proof_term::WIDTH;
+
+// Each function that lays a piece returns the next place; one past the end says that the text has no room, and then nothing more is laid.
+fn lay_byte(buf: &mut [u8], at: usize, b: u8) -> usize
+    ensures { λ r. ⌜ Laid (some (b ∷ [])) (now (buf .entry)) at (now (buf .exit)) r ⌝ }
+{
+    if at < buf.len() {
+        buf[at] = b;
+        return at + 1;
+    }
+    buf.len() + 1
+}
+
+fn lay(buf: &mut [u8], at: usize, text: &[u8]) -> usize
+    ensures { λ r. ⌜ Laid (some (now (text .entry))) (now (buf .entry)) at (now (buf .exit)) r ⌝ }
+{
+    let mut next = at;
+    let mut i = 0;
+    while i < text.len() {
+        next = lay_byte(buf, next, text[i]);
+        i += 1;
+    }
+    next
+}
+
+// A number in decimal. For symbols and counts, which have at most seven digits.
+pub fn lay_decimal(buf: &mut [u8], at: usize, n: usize) -> usize
+    requires { ⌜ n < 10000000 ⌝ }
+    ensures { λ r. ⌜ Laid (some (decimal n)) (now (buf .entry)) at (now (buf .exit)) r ⌝ }
+{
+    if n < 10 {
+        return lay_byte(buf, at, 48 + n as u8);
+    }
+    let next = lay_decimal(buf, at, n / 10);
+    lay_byte(buf, next, 48 + (n % 10) as u8)
+}
+
+// The letters of generated index `g`.
+fn lay_generated(buf: &mut [u8], at: usize, g: usize) -> usize
+    ensures { λ r. ⌜ Laid (some (spell g)) (now (buf .entry)) at (now (buf .exit)) r ⌝ }
+{
+    let count = identifier_generator::letter_count(g);
+    let mut next = at;
+    let mut j = 0;
+    while j < count {
+        next = lay_byte(buf, next, identifier_generator::letter(g, j));
+        j += 1;
+    }
+    next
+}
+
+// The bytes of name `x`: an assumption's stand in the text of names, where no number from 64 on is looked up.
+fn lay_name(buf: &mut [u8], at: usize, names: &[u8], x: usize) -> usize
+    ensures { λ r. ⌜ Laid (some (bytesOf (namesIn (now (names .entry))) x)) (now (buf .entry)) at (now (buf .exit)) r ⌝ }
+{
+    if x < 64 {
+        return lay(buf, at, identifier_generator::name(names, names, x));
+    }
+    lay_generated(buf, at, x - 64)
+}
+
+fn leaf_letter(kind: usize) -> u8
+    ensures { λ r. ⌜ r ∷ [] ≡ leafText kind ⌝ }
+{
+    if kind <= 2 {
+        return b'p';
+    }
+    if kind <= 6 {
+        return b'U';
+    }
+    b'E'
+}
+
+// A leaf: the letter of its kind, and its symbol.
+fn lay_leaf(buf: &mut [u8], at: usize, kind: usize, symbol: usize) -> usize
+    requires { ⌜ symbol < 10000000 ⌝ }
+    ensures { λ r. ⌜ Laid (some (leafText kind ++ decimal symbol)) (now (buf .entry)) at (now (buf .exit)) r ⌝ }
+{
+    let next = lay_byte(buf, at, leaf_letter(kind));
+    lay_decimal(buf, next, symbol)
+}
+
+// What stands before the two halves of And (3), Or (4) and Impl (5).
+fn lay_opening(buf: &mut [u8], at: usize, kind: usize) -> usize
+    ensures { λ r. ⌜ Laid (some (opening kind)) (now (buf .entry)) at (now (buf .exit)) r ⌝ }
+{
+    match kind {
+        3 => lay(buf, at, b"(& "),
+        4 => lay(buf, at, b"(| "),
+        _ => lay(buf, at, b"(> "),
+    }
+}
+
+// The formula at `i`, of which at most `levels` nodes may stand on a path. Its halves have smaller indices.
+fn lay_formula(buf: &mut [u8], at: usize, f: &[u32], i: usize, levels: usize) -> usize
+    requires { ⌜ GoodWords (now f) ⌝ }
+    requires { ⌜ i < length (now f) ⌝ }
+    ensures { λ r. ⌜ Laid (formPiece (now (f .entry)) levels i) (now (buf .entry)) at (now (buf .exit)) r ⌝ }
+{
+    if levels == 0 {
+        return buf.len() + 1;
+    }
+    if buf.len() < at {
+        return at;
+    }
+    let kind = formula::kind(f, i);
+    let left = formula::left(f, i);
+    if kind == 0 {
+        return lay(buf, at, b"T");
+    }
+    if kind == 1 {
+        return lay(buf, at, b"F");
+    }
+    if kind == 2 {
+        return lay_leaf(buf, at, kind, left);
+    }
+    if 5 < kind {
+        return lay_leaf(buf, at, kind, left);
+    }
+    let right = formula::right(f, i);
+    let opened = lay_opening(buf, at, kind);
+    let one = lay_formula(buf, opened, f, left, levels - 1);
+    let between = lay(buf, one, b" ");
+    let two = lay_formula(buf, between, f, right, levels - 1);
+    lay(buf, two, b")")
+}
+
+// The keyword of a kind, with its bracket.
+fn lay_keyword(buf: &mut [u8], at: usize, kind: usize) -> usize
+    ensures { λ r. ⌜ Laid (some (keyword kind)) (now (buf .entry)) at (now (buf .exit)) r ⌝ }
+{
+    match kind {
+        1 => lay(buf, at, b"(pair"),
+        2 => lay(buf, at, b"(fst"),
+        3 => lay(buf, at, b"(snd"),
+        4 => lay(buf, at, b"(fn"),
+        5 => lay(buf, at, b"(app"),
+        7 => lay(buf, at, b"(inl"),
+        8 => lay(buf, at, b"(inr"),
+        9 => lay(buf, at, b"(case"),
+        10 => lay(buf, at, b"(abort"),
+        11 => lay(buf, at, b"(as"),
+        _ => lay(buf, at, b"("),
+    }
+}
+
+// A field `x` of a node, behind a space.
+fn lay_field(
+    buf: &mut [u8],
+    at: usize,
+    f: &[u32],
+    t: &[u16],
+    names: &[u8],
+    what: Field,
+    x: usize,
+    levels: usize,
+) -> usize
+    requires { ⌜ Given (now f) (now t) ⌝ }
+    requires { ⌜ FieldIn (length (now f)) (length (now t) / nodeWidth) (fieldAs what) x ⌝ }
+    ensures { λ r.
+        ⌜ Laid (fieldPiece (now (f .entry)) (now (t .entry)) (namesIn (now (names .entry))) levels (fieldAs what) x) (now (buf .entry)) at
+        (now (buf .exit)) r ⌝ }
+{
+    match what {
+        Field::Unused => at,
+        Field::Name => {
+            let next = lay(buf, at, b" ");
+            lay_name(buf, next, names, x)
+        }
+        Field::Child => {
+            let next = lay(buf, at, b" ");
+            lay_term(buf, next, f, t, names, x, levels)
+        }
+        Field::Formula => {
+            let next = lay(buf, at, b" ");
+            lay_formula(buf, next, f, x, levels)
+        }
+    }
+}
+
+// The term at node `i`, of which at most `levels` nodes may stand on a path. Its children have smaller indices.
+fn lay_term(
+    buf: &mut [u8],
+    at: usize,
+    f: &[u32],
+    t: &[u16],
+    names: &[u8],
+    i: usize,
+    levels: usize,
+) -> usize
+    requires { ⌜ Given (now f) (now t) ⌝ }
+    requires { ⌜ i < length (now t) / nodeWidth ⌝ }
+    ensures { λ r.
+        ⌜ Laid (termPiece (now (f .entry)) (now (t .entry)) (namesIn (now (names .entry))) levels i) (now (buf .entry)) at
+        (now (buf .exit)) r ⌝ }
+{
+    if levels == 0 {
+        return buf.len() + 1;
+    }
+    if buf.len() < at {
+        return at;
+    }
+    let node = i * WIDTH;
+    let kind = proof_term::number(t, node);
+    if kind == 0 {
+        return lay_name(buf, at, names, proof_term::number(t, node + 1));
+    }
+    let below = levels - 1;
+    let opened = lay_keyword(buf, at, kind);
+    match proof_term::fields_of(kind) {
+        Fields::Held(a, b, c, d, e) => {
+            let first = lay_field(
+                buf,
+                opened,
+                f,
+                t,
+                names,
+                a,
+                proof_term::number(t, node + 1),
+                below,
+            );
+            let second = lay_field(
+                buf,
+                first,
+                f,
+                t,
+                names,
+                b,
+                proof_term::number(t, node + 2),
+                below,
+            );
+            let third = lay_field(
+                buf,
+                second,
+                f,
+                t,
+                names,
+                c,
+                proof_term::number(t, node + 3),
+                below,
+            );
+            let fourth = lay_field(
+                buf,
+                third,
+                f,
+                t,
+                names,
+                d,
+                proof_term::number(t, node + 4),
+                below,
+            );
+            let fifth = lay_field(
+                buf,
+                fourth,
+                f,
+                t,
+                names,
+                e,
+                proof_term::number(t, node + 5),
+                below,
+            );
+            lay(buf, fifth, b")")
+        }
+        Fields::Refused => lay(buf, opened, b")"),
+    }
+}
+
+// What the tests of 1, 2, 3 (the count alone), 4 and 13 say, with the place of the fault.
+pub enum Tested {
+    Passed,
+    Sizes,
+    BadFormula(usize),
+    BadAssumption(usize),
+    BadNames(usize),
+    BadTerm(usize),
+}
+
+fn right_sizes(words: usize, count: usize, numbers: usize, nodes: usize) -> bool
+    ensures { λ r. ⌜ r ≡ (formulaSizes words count && nodeSizes numbers nodes) ⌝ }
+{
+    if formula::formula_sizes(words, count) {
+        return formula::node_sizes(numbers, nodes);
+    }
+    false
+}
+
+// The first test that refuses, in the order 1, 2, 3, 4, 13.
+fn test(
+    f: &[u32],
+    count: usize,
+    assumptions: usize,
+    names: &[u8],
+    t: &[u16],
+    nodes: usize,
+    root: usize,
+) -> Tested
+    ensures { λ r.
+        ⌜ refusedBy r ≡
+        writerRefusal (draft (now (f .entry)) count assumptions (now (names .entry)) (now (t .entry)) nodes root []) ⌝ }
+{
+    if right_sizes(f.len(), count, t.len(), nodes) {
+        if let formula::Place::At(i) = formula::bad_word(f, count) {
+            return Tested::BadFormula(i);
+        }
+        if let formula::Place::At(i) = formula::too_many(assumptions) {
+            return Tested::BadAssumption(i);
+        }
+        if let identifier_generator::Fault::At(i) = identifier_generator::bad_name(
+            names,
+            assumptions,
+        ) {
+            return Tested::BadNames(i);
+        }
+        if let proof_term::Place::At(i) = proof_term::bad_term(t, nodes, root, count, names) {
+            return Tested::BadTerm(i);
+        }
+        return Tested::Passed;
+    }
+    Tested::Sizes
+}
+
+fn number_of(tested: Tested) -> usize
+    ensures { λ r. ⌜ r ≡ numberOf (refusedBy tested) ⌝ }
+{
+    match tested {
+        Tested::Passed => 0,
+        Tested::Sizes => 1,
+        Tested::BadFormula(_) => 2,
+        Tested::BadAssumption(_) => 3,
+        Tested::BadNames(_) => 4,
+        Tested::BadTerm(_) => 13,
+    }
+}
+
+fn place_of(tested: Tested) -> usize
+    ensures { λ r. ⌜ r ≡ placeOf (refusedBy tested) ⌝ }
+{
+    match tested {
+        Tested::Passed => 0,
+        Tested::Sizes => 0,
+        Tested::BadFormula(i) => i,
+        Tested::BadAssumption(i) => i,
+        Tested::BadNames(i) => i,
+        Tested::BadTerm(i) => i,
+    }
+}
+
+// Zeros from `from` on.
+fn clear_from(buf: &mut [u8], from: usize)
+    requires { ⌜ from ≤ length (now buf) ⌝ }
+    ensures { λ _. ⌜ now (buf .exit) ≡ take from (now (buf .entry)) ++ replicate (length (now (buf .entry)) - from) 0 ⌝ }
+{
+    let mut i = from;
+    while i < buf.len() {
+        buf[i] = 0;
+        i += 1;
+    }
+}
+
+// Nodes on a path from the root, ascribed formulas included.
+const MOST_LEVELS: usize = 1024;
+
+// Writes the term at node `root` and zeros behind it, and returns how many bytes its text has; 12 leaves the buffer zero.
+fn write_term(
+    f: &[u32],
+    t: &[u16],
+    names: &[u8],
+    root: usize,
+    buf: &mut [u8],
+    number: &mut usize,
+) -> usize
+    requires { ⌜ Given (now f) (now t) ⌝ }
+    requires { ⌜ root < length (now t) / nodeWidth ⌝ }
+    ensures { λ r.
+        ⌜ Hands (textFitted (namesIn (now (names .entry))) (term (book (now (f .entry))) (nodes (now (t .entry))) root)
+        (length (now (buf .entry)))) r (now (number .exit)) (now (buf .exit)) ⌝ }
+{
+    let end = lay_term(buf, 0, f, t, names, root, MOST_LEVELS);
+    if buf.len() < end {
+        clear_from(buf, 0);
+        *number = 12;
+        return 0;
+    }
+    clear_from(buf, end);
+    *number = 0;
+    end
+}
+
+// Writes the house text of the term at node `root`, and returns how many bytes it has. Sets `number` to 0, or to a refusal's, and `place`:
+// 12 leaves the buffer zero, 1 to 4 and 13 leave it as it was.
+pub fn write_text(
+    f: &[u32],
+    count: usize,
+    assumptions: usize,
+    names: &[u8],
+    t: &[u16],
+    nodes: usize,
+    root: usize,
+    buf: &mut [u8],
+    number: &mut usize,
+    place: &mut usize,
+) -> usize
+    ensures { λ r.
+        ⌜ Hands (written (draft (now (f .entry)) count assumptions (now (names .entry)) (now (t .entry)) nodes root (now (buf .entry)))) r
+        (now (number .exit)) (now (buf .exit)) ⌝ }
+    ensures { λ _.
+        ⌜ now (place .exit) ≡
+        (written (draft (now (f .entry)) count assumptions (now (names .entry)) (now (t .entry)) nodes root (now (buf .entry)))) .place ⌝ }
+{
+    let tested = test(f, count, assumptions, names, t, nodes, root);
+    let refused = number_of(tested);
+    *number = refused;
+    *place = place_of(tested);
+    if refused == 0 {
+        let numbers = nodes * WIDTH;
+        return write_term(&f[..count], &t[..numbers], names, root, buf, number);
+    }
+    0
+}
+
+// The house text as the front part of the buffer that `write_text` fills.
+pub fn write<'a>(
+    f: &[u32],
+    count: usize,
+    assumptions: usize,
+    names: &[u8],
+    t: &[u16],
+    nodes: usize,
+    root: usize,
+    buf: &'a mut [u8],
+    number: &mut usize,
+    place: &mut usize,
+) -> &'a mut [u8]
+    ensures { λ r.
+        ⌜ HandsPart (written (draft (now (f .entry)) count assumptions (now (names .entry)) (now (t .entry)) nodes root (now (buf .entry))))
+        (buf .entry) r (now (number .exit)) ⌝ }
+    ensures { λ _.
+        ⌜ now (place .exit) ≡
+        (written (draft (now (f .entry)) count assumptions (now (names .entry)) (now (t .entry)) nodes root (now (buf .entry)))) .place ⌝ }
+{
+    let n = write_text(
+        f,
+        count,
+        assumptions,
+        names,
+        t,
+        nodes,
+        root,
+        buf,
+        number,
+        place,
+    );
+    &mut buf[..n]
+}
