@@ -34,7 +34,7 @@ pub enum Outcome {
     Proved(usize, Search),
     Unprovable(usize, usize),
     Shortage(Lack, usize),
-    Refused(Fault),
+    Refused(Fault, usize),
 }
 pub use Outcome::{Proved, Refused, Shortage, Unprovable};
 
@@ -45,22 +45,17 @@ pub fn bad_assumption(count: usize, hs: &[usize]) -> Option<usize> {
     hs.iter().position(|a| *a >= count)
 }
 
-pub fn refusal(x: &Claim) -> Option<Fault> {
+pub fn refusal(x: &Claim) -> Option<(Fault, usize)> {
     let count = x.words.len();
     let rooms = x.lent.words <= 16384 && x.lent.nodes <= 16384 && x.lent.steps <= 1_000_000;
-    if !(x.lent.free || rooms && count <= x.lent.words) {
-        Some(Fault::Sizes)
-    } else if bad_word(x.words).is_some() {
-        Some(Fault::BadFormula)
-    } else if bad_assumption(count, x.assumed).is_some() {
-        Some(Fault::BadAssumption)
-    } else if bad_name(x.assumed.len(), x.text).is_some() {
-        Some(Fault::BadNames)
-    } else if x.goal >= count {
-        Some(Fault::BadGoal)
-    } else {
-        None
-    }
+    let right_sizes = x.lent.free || rooms && count <= x.lent.words;
+    let unless = |holds: bool| (!holds).then_some(0);
+    let fault_at = |fault, place: Option<usize>| place.map(|i| (fault, i));
+    fault_at(Fault::Sizes, unless(right_sizes))
+        .or_else(|| fault_at(Fault::BadFormula, bad_word(x.words)))
+        .or_else(|| fault_at(Fault::BadAssumption, bad_assumption(count, x.assumed)))
+        .or_else(|| fault_at(Fault::BadNames, bad_name(x.assumed.len(), x.text)))
+        .or_else(|| fault_at(Fault::BadGoal, unless(x.goal < count)))
 }
 
 pub fn search_limits(lent: &Lent) -> Limits {
@@ -76,8 +71,8 @@ pub fn search_limits(lent: &Lent) -> Limits {
 }
 
 pub fn called(x: &Claim) -> Outcome {
-    if let Some(fault) = refusal(x) {
-        return Refused(fault);
+    if let Some((fault, place)) = refusal(x) {
+        return Refused(fault, place);
     }
     let mut s = Search {
         limits: search_limits(&x.lent),
@@ -91,5 +86,15 @@ pub fn called(x: &Claim) -> Outcome {
         Ok(Some(root)) => Proved(root, s),
         Ok(None) => Unprovable(s.steps, s.used),
         Err(lack) => Shortage(lack, s.steps),
+    }
+}
+
+/// number, place, root, steps, indices, formulas, terms
+pub fn numbers(outcome: &Outcome, count: usize) -> [usize; 7] {
+    match outcome {
+        Proved(r, s) => [0, 0, *r, s.steps, s.used, s.words.len(), s.nodes.len()],
+        Unprovable(n, u) => [0, 0, 0, *n, *u, count, 0],
+        Shortage(lack, n) => [*lack as usize, 0, 0, *n, 0, 0, 0],
+        Refused(fault, i) => [*fault as usize, *i, 0, 0, 0, 0, 0],
     }
 }

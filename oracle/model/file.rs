@@ -1,6 +1,6 @@
 //! File.antt: the house file, and the bytes that the program prints for it.
 use crate::call::Outcome::*;
-use crate::call::{called, Claim, Outcome};
+use crate::call::{called, numbers, Claim, Outcome};
 use crate::status::status_lines;
 use crate::text::written;
 use crate::Options;
@@ -76,19 +76,51 @@ pub fn answer_lines(outcome: Outcome, options: &Options) -> Vec<u8> {
             format!("refused {}\nsteps {n}\n", lack as usize).into_bytes()
         }
         Shortage(lack, _) => refused_line(lack as usize),
-        Refused(fault) => refused_line(fault as usize),
+        Refused(fault, _) => refused_line(fault as usize),
     }
 }
 
-pub fn goal_lines(x: &File, goal: usize, options: &Options) -> Vec<u8> {
-    let claim = Claim {
+pub fn claim_of<'a>(x: &'a File, goal: usize, options: &Options) -> Claim<'a> {
+    Claim {
         words: &x.words,
         assumed: &x.indices,
         text: &x.text,
         goal,
         lent: options.lent,
+    }
+}
+
+pub fn goal_lines(x: &File, goal: usize, options: &Options) -> Vec<u8> {
+    answer_lines(called(&claim_of(x, goal, options)), options)
+}
+
+/// Adler-32.
+fn checksum(text: &[u8]) -> usize {
+    let sum = |(a, b), byte: &u8| {
+        (
+            (a + *byte as usize) % 65521,
+            (a + b + *byte as usize) % 65521,
+        )
     };
-    answer_lines(called(&claim), options)
+    let (a, b) = text.iter().fold((1, 0), sum);
+    b * 65536 + a
+}
+
+/// The seven numbers of the call; then the writer's number, and the length and the checksum of the text.
+pub fn numbers_line(bs: &[u8], options: &Options) -> Vec<u8> {
+    let Some(x) = decoded(bs) else {
+        return b"14 0 0 0 0 0 0 0 0 0\n".to_vec();
+    };
+    let outcome = called(&claim_of(&x, x.goals[0], options));
+    let seven = numbers(&outcome, x.words.len()).map(|n| n.to_string());
+    let text = match &outcome {
+        Proved(root, s) => match written(s, *root, &options.lent) {
+            Some(text) => format!("0 {} {}", text.len(), checksum(&text)),
+            None => "12 0 0".to_string(),
+        },
+        _ => "0 0 0".to_string(),
+    };
+    format!("{} {text}\n", seven.join(" ")).into_bytes()
 }
 
 pub fn printed(bs: &[u8], options: &Options) -> Vec<u8> {
