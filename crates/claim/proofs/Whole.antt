@@ -1,7 +1,7 @@
 -- The whole call: a refused claim changes nothing, and what `closing` leaves of any other is what theory's call leaves. Assumes nothing.
 use Prim.Native.Nat.{ℕ, _-_, _≤_}
-use mathlib.Core.Path.{_≡_, refl, sym, ap, ap₂, _∙_}
-use mathlib.Core.Option.{none, some}
+use mathlib.Core.Path.{_≡_, refl, sym, ap, ap₂, _∙_, subst}
+use mathlib.Core.Option.{Option, none, some}
 use mathlib.Core.List.{List, map}
 use native.Mathlib.Omega.{arith}
 use lib.ListN.{length, take, replicate}
@@ -23,9 +23,11 @@ use Rattle.representation.specs.Keeping.{Same, Within, stateOf}
 use Rattle.representation.specs.Meaning.{Says, says-found, says-failed, says-short}
 use Rattle.representation.proofs.Same.{take-same}
 use Rattle.representation.proofs.Charge.{words-many}
+use Rattle.claim.specs.declared.Tested.{Tested}
+use Rattle.claim.specs.declared.Tested.the-variants.{Passed, Refused as Fails}
 use Rattle.claim.specs.declared.Outcome.{Outcome}
 use Rattle.claim.specs.declared.Outcome.the-variants.{Proved, Unprovable, Short, Refused}
-use Rattle.claim.specs.Outcomes.{outcomeOf, numbersOf, keeps, wordsKept, numbersKept, outcomeFor}
+use Rattle.claim.specs.Outcomes.{testedOf, outcomeOf, numbersOf, keeps, wordsKept, numbersKept, outcomeFor}
 use Rattle.claim.specs.Start.{firstState, limitsIn, Ends}
 use Rattle.claim.specs.Whole.{Called}
 use Rattle.claim.proofs.Given.{words-back}
@@ -48,6 +50,32 @@ called-refused x w e = let a = sym (refused-call x e) in record {
   terms = ap (λ (v : After). v .terms) a;
   records = ap (λ (v : After). recordsAfter zeroed v w) a;
 }
+
+-- what `refusal` answers, as an outcome where it refuses
+ofTest : Tested → Outcome
+ofTest Passed = Refused 0 0
+ofTest (Fails k i) = Refused k i
+
+-- a claim that the code's tests pass is not refused
+passed-none : (o : Option R.Refused) → Passed ≡ testedOf o → o ≡ none
+unfolding testedOf
+passed-none none e = refl
+passed-none (some r) e = absurd (let z : _≡_ {A = ℕ} 0 1 = cc in omega arith)
+
+pub tested-passed : (x : Claim) → Passed ≡ testedOf (refusal x) → refusal x ≡ none
+tested-passed x = passed-none (refusal x)
+
+-- and one that they refuse is refused so
+refused-as : (x : Claim) (w : List Rec) {k i : ℕ} (o : Option R.Refused) → refusal x ≡ o → Fails k i ≡ testedOf o →
+    Called x w (Refused k i) (x .words) (x .terms) w
+unfolding testedOf ofTest
+refused-as x w none p e = absurd (let z : _≡_ {A = ℕ} 0 1 = cc in omega arith)
+refused-as x w (some r) p e =
+    subst (λ (o : Outcome). Called x w o (x .words) (x .terms) w) (sym (ap ofTest e)) (called-refused x w p)
+
+pub called-tested : (x : Claim) (w : List Rec) {k i : ℕ} → Fails k i ≡ testedOf (refusal x) →
+    Called x w (Refused k i) (x .words) (x .terms) w
+called-tested x w = refused-as x w (refusal x) refl
 
 -- nothing kept, all zero
 none-kept : (n : ℕ) (t : List ℕ) → length t ≡ n → padded (length t) (take 0 t) ≡ replicate n 0
