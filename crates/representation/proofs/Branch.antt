@@ -110,6 +110,12 @@ module _ {m : Limits} {x x1 y : Lent} {s s1 : State} {q q1 : Sequent} {u : ℕ} 
         back-at rep (frame-less (omega arith) (omega arith) (omega arith) (after-made k)) (k .within) (k .after .laid)
         (omega (arith, mk .formulas-up, k .after .formulas-up)) (omega (arith, mk .terms-up, k .after .terms-up))
 
+    -- the state before the premise still fits the lists after it
+    pub back-before : {r : Answer} → Kept m x1 s1 q1 r y → Back m x s q s y
+    back-before k =
+        let f : Frame x (s .formulas) (s .terms) (q .level + 1) y = frame-less (omega arith) (omega arith) (omega arith) (after-made k) in
+        back-at rep f (rep .within) (laid-same (f .words) (rep .laid)) (omega arith) (omega arith)
+
     -- a failed try gives its formulas and terms back
     pub back-failed : {s2 : State} → Kept m x1 s1 q1 (Failed s2) y → Back m x s q (returned s s2) y
     back-failed k =
