@@ -152,3 +152,14 @@ module _ (ws : Book) where
       }
   unfolding fire fireAt
   fire-fired us n e es t b h = ap (λ (o : Option (ℕ × ℕ)). fireAt e n (λ m. fire ws us m es) o) h
+
+  -- each record is kept or fires
+  pub fire-splits : (us : List Entry) (n : ℕ) (es : List Entry) → length (fire ws us n es .kept) + length (fire ws us n es .new) ≡ length es
+  unfolding fire fireAt
+  fire-splits us n [] = refl
+  fire-splits us n (e ∷ es) = go (fireShape ws us (look ws (e .formula))) (λ m. fire-splits us m es)
+    where
+      go : (o : Option (ℕ × ℕ)) → ((m : ℕ) → length (fire ws us m es .kept) + length (fire ws us m es .new) ≡ length es) →
+          length (fireAt e n (λ m. fire ws us m es) o .kept) + length (fireAt e n (λ m. fire ws us m es) o .new) ≡ suc (length es)
+      go none rest = omega (arith, rest n)
+      go (some p) rest = omega (arith, rest (suc n))
