@@ -14,11 +14,14 @@ use Rattle.context.specs.Moves.{stretch, pushed, without}
 use Rattle.context.specs.Area.{Rec, rec, formulaAt, termAt, removed, pushPlace}
 use Rattle.representation.specs.Tables.{upto, downto}
 use Rattle.representation.specs.Reading.{lent, rightAt, book, unorderedIn, orderedIn}
-use Rattle.representation.specs.Keeping.{Laid, Seats}
+use Rattle.representation.specs.Keeping.{Laid, Seats, Rep}
+use Rattle.representation.specs.Making.{Tested}
 use Rattle.representation.specs.Leaves.{firesBy, firingIn, MayFire, Fell}
 use Rattle.theory.proofs.Falling.{firing}
+use Rattle.representation.proofs.Charge.{passes}
 use Rattle.representation.proofs.Seat.{unordered-length}
 use Rattle.representation.proofs.Fires.{firing-counted}
+use Rattle.firing.proofs.Walk.{firing-few}
 use Rattle.representation.proofs.Firing.{lastNode, FallenTo, fall-starts, fall-past, fall-fires, fall-ends, fall-next}
 
 -- a number above 0 is one more than the one before it
@@ -102,3 +105,38 @@ module _ {m : Limits} {f : List ℕ} {nf base : ℕ} {w0 : List Rec} {q : Sequen
     walk-ends {n = n} {t} {w} {p} x z =
         fall-ends m f nf (st .laid) (st .long) (st .few) base t0 w0 (st .room) q (st .few-nodes)
         (subst (λ (i : ℕ). FallenTo m f nf base t0 w0 q i n t w p) z x)
+
+-- how many fire, and the fills
+pub count-few : {m : Limits} {f t : List ℕ} {w : List Rec} {s : State} {q : Sequent} {c : ℕ} → Rep m (lent f t w) s q →
+    c ≡ firingIn f w (q .level) (q .unordered) (q .unordered) → (c ≤ 256) × (s .terms ≤ 16384)
+count-few {f = f} {w = w} {q = q} rep e =
+    let a = firing-few f w (q .level) (q .unordered) (q .unordered) in
+    let b = rep .seats .fits in
+    let d = rep .within .in-terms in
+    let g = rep .rooms .most-terms in
+    (omega arith, omega arith)
+
+-- the charge that passed leaves room for all
+pub may-fire : {m : Limits} {f t : List ℕ} {w : List Rec} {s : State} {q : Sequent} {c n k l u v : ℕ} → Rep m (lent f t w) s q → q .ordered ≡ 0 →
+    c ≡ firingIn f w (q .level) (q .unordered) (q .unordered) → Tested m n u v (s .terms + c) k l → n ≡ 0 →
+    MayFire m (lent f t w) s q (s .terms + c)
+may-fire {s = s} rep none e t z = record {
+  rep = rep;
+  none = none;
+  last = ap (λ (k : ℕ). s .terms + k) e;
+  few = omega (arith, passes t z .terms, rep .rooms .most-terms);
+}
+
+pub may-spend : {m : Limits} {f t : List ℕ} {w : List Rec} {s : State} {q : Sequent} {c n k l u v : ℕ} → Rep m (lent f t w) s q →
+    c ≡ firingIn f w (q .level) (q .unordered) (q .unordered) → Tested m n u v (s .terms + c) k l → n ≡ 0 →
+    (s .formulas + 0 ≤ 16384) × (s .terms + c ≤ 16384)
+may-spend rep e t z =
+    let a = rep .within .in-formulas in
+    let b = rep .rooms .most-formulas in
+    let d = rep .rooms .most-terms in
+    let g = passes t z .terms in
+    (omega arith, omega arith)
+
+-- the leaf was found nowhere
+pub absent-by : {j n place : ℕ} → j ≡ place → n ≤ j → n ≤ place
+absent-by e h = omega arith

@@ -1,5 +1,5 @@
 -- The walks over the unordered records, one record on. Assumes nothing.
-use Prim.Native.Nat.{ℕ, suc, _+_, _-_, _*_, _≤_, _<_}
+use Prim.Native.Nat.{ℕ, zero, suc, _+_, _-_, _*_, _≤_, _<_}
 use mathlib.Core.Path.{_≡_, refl, sym, ap, ap₂, _∙_, subst}
 use mathlib.Core.Bool.{Bool, true, false}
 use mathlib.Core.List.{List, [], _∷_}
@@ -115,3 +115,23 @@ area-fired w q i n f a {b = b} eq ew e eb ea =
 -- all are counted at the end
 pub counts-end : (f : List ℕ) (w : List Rec) (l n k : ℕ) {c : ℕ} → c ≡ firingIn f w l n k → k ≤ n → n ≤ k → c ≡ firingIn f w l n n
 counts-end f w l n k e a b = e ∙ ap (firingIn f w l n) (let z : k ≡ n = omega arith in z)
+
+-- the place of a word that is known by another name
+pub place-as : (f : List ℕ) (w : List Rec) (l n : ℕ) {r v u : ℕ} → r ≡ leafPlace f w l n v → v ≡ u → r ≡ leafPlace f w l n u
+place-as f w l n e ev = e ∙ ap (leafPlace f w l n) ev
+
+-- a word that is no leaf's stands nowhere
+pub place-none : (f : List ℕ) (w : List Rec) (l n : ℕ) {v u k : ℕ} {b : Bool} → v ≡ u → k ≡ kindOf v → b ≡ leafKind k → b ≡ false →
+    n ≡ leafPlace f w l n u
+place-none f w l n {v} ev ek eb h =
+    sym (other-place f w l n v (sym (eb ∙ ap leafKind ek) ∙ h)) ∙ ap (leafPlace f w l n) ev
+
+-- no more fire than there are
+pub firing-few : (f : List ℕ) (w : List Rec) (l n k : ℕ) → firingIn f w l n k ≤ k
+unfolding firingIn
+firing-few f w l n zero = omega arith
+firing-few f w l n (suc k) = go (ltb (firesBy f w l n k) n) (firing-few f w l n k)
+  where
+    go : (b : Bool) → firingIn f w l n k ≤ k → elim b [ true ↦ suc (firingIn f w l n k) | false ↦ firingIn f w l n k ] ≤ suc k
+    go true h = omega arith
+    go false h = omega arith

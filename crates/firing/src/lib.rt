@@ -9,8 +9,13 @@ ghost use Rattle.proof_term.specs.Put.{putNode};
 ghost use Rattle.context.specs.Moves.{stretch, pushed, without};
 ghost use Rattle.context.specs.Area.{rec, formulaAt, termAt, removed, pushPlace};
 ghost use Rattle.representation.specs.Reading.{lent, rightAt};
+ghost use Rattle.theory.specs.Meter.{bySearch};
+ghost use Rattle.representation.specs.Keeping.{Rep};
+ghost use Rattle.representation.specs.Turning.{Turns};
 ghost use Rattle.representation.specs.Leaves.{leafPlace, firesBy, firingIn, MayFire, Fell};
+use context::Answer;
 use context::Limits;
+use context::Next;
 use context::Sequent;
 use context::State;
 
@@ -116,4 +121,62 @@ pub fn fire_all(
         }
     }
     p
+}
+
+// The place of the goal's leaf among the unordered records; the number of them where the goal is no leaf or does not stand there.
+pub fn goal_leaf(f: &[u32], w: &[[u16; 2]], q: Sequent) -> usize
+    requires { ⌜ (q .level < 256) × (q .unordered ≤ stretch) ⌝ }
+    ensures { λ r. ⌜ r ≡ leafPlace (now (f .entry)) (now (w .entry)) (q .level) (q .unordered) (getD (now (f .entry)) (q .goal) 0) ⌝ }
+{
+    let goal = formula::word(f, q.goal);
+    if formula::leaf_kind(formula::kind_of(goal)) {
+        return find_leaf(f, w, q, goal);
+    }
+    q.unordered
+}
+
+// Rule 2, where the goal's leaf is not present; where nothing fires, the tries.
+pub fn fire(f: &[u32], t: &mut [u16], w: &mut [[u16; 2]], m: Limits, st: State, q: Sequent) -> Next
+    requires { ⌜ Rep m (lent (now f) (now t) (now w)) st q ⌝ }
+    requires { ⌜ (q .ordered ≡ 0) × (q .unordered ≤ leafPlace (now f) (now w) (q .level) (q .unordered) (getD (now f) (q .goal) 0)) ⌝ }
+    ensures { λ r. ⌜ ((taken : List (List ℕ)) → Turns m taken (lent (now (f .entry)) (now (t .entry)) (now (w .entry))) st q bySearch r (lent (now (f .entry)) (now (t .exit)) (now (w .exit)))) ⌝ }
+{
+    let c = count_fires(f, w, q);
+    if c == 0 {
+        return Next::Try(st, q);
+    }
+    let n = context::lack(
+        m,
+        st.indices,
+        st.formulas,
+        st.terms + c,
+        q.unordered,
+        q.level,
+    );
+    if n != 0 {
+        return Next::End(Answer::Short(n, st));
+    }
+    let q1 = fire_all(f, t, w, m, st, q, st.terms + c);
+    Next::Go(context::spend(st, st.indices, 0, c), q1)
+}
+
+// Search's rules 1 and 2, its entry counted.
+pub fn settle(
+    f: &[u32],
+    t: &mut [u16],
+    w: &mut [[u16; 2]],
+    m: Limits,
+    st: State,
+    q: Sequent,
+) -> Next
+    requires { ⌜ Rep m (lent (now f) (now t) (now w)) st q ⌝ }
+    requires { ⌜ q .ordered ≡ 0 ⌝ }
+    ensures { λ r. ⌜ ((taken : List (List ℕ)) → Turns m taken (lent (now (f .entry)) (now (t .entry)) (now (w .entry))) st q bySearch r (lent (now (f .entry)) (now (t .exit)) (now (w .exit)))) ⌝ }
+{
+    let j = goal_leaf(f, w, q);
+    if j < q.unordered {
+        let x = context::term_at(w, q.level * context::STRETCH + j);
+        return Next::End(Answer::Found(x, st));
+    }
+    fire(f, t, w, m, st, q)
 }
