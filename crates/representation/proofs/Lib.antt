@@ -31,8 +31,5 @@ pub mod FourWays
 pub mod Ranging
 pub mod FallsFour
 pub mod Onwards
-pub mod Start
-pub mod Whole
-pub mod Ending
 pub mod FiredFit
 pub mod Settle
