@@ -139,7 +139,8 @@ pub fn goal_leaf(f: &[u32], w: &[[u16; 2]], q: Sequent) -> usize
 pub fn fire(f: &[u32], t: &mut [u16], w: &mut [[u16; 2]], m: Limits, st: State, q: Sequent) -> Next
     requires { ⌜ Rep m (lent (now f) (now t) (now w)) st q ⌝ }
     requires { ⌜ (q .ordered ≡ 0) × (q .unordered ≤ leafPlace (now f) (now w) (q .level) (q .unordered) (getD (now f) (q .goal) 0)) ⌝ }
-    ensures { λ r. ⌜ ((taken : List (List ℕ)) → Turns m taken (lent (now (f .entry)) (now (t .entry)) (now (w .entry))) st q bySearch r (lent (now (f .entry)) (now (t .exit)) (now (w .exit)))) ⌝ }
+    ensures { λ r. ⌜ ((taken : List (List ℕ)) → Turns m taken (lent (now (f .entry)) (now (t .entry)) (now (w .entry))) st q bySearch r
+        (lent (now (f .entry)) (now (t .exit)) (now (w .exit)))) ⌝ }
 {
     let c = count_fires(f, w, q);
     if c == 0 {
@@ -171,7 +172,8 @@ pub fn settle(
 ) -> Next
     requires { ⌜ Rep m (lent (now f) (now t) (now w)) st q ⌝ }
     requires { ⌜ q .ordered ≡ 0 ⌝ }
-    ensures { λ r. ⌜ ((taken : List (List ℕ)) → Turns m taken (lent (now (f .entry)) (now (t .entry)) (now (w .entry))) st q bySearch r (lent (now (f .entry)) (now (t .exit)) (now (w .exit)))) ⌝ }
+    ensures { λ r. ⌜ ((taken : List (List ℕ)) → Turns m taken (lent (now (f .entry)) (now (t .entry)) (now (w .entry))) st q bySearch r
+        (lent (now (f .entry)) (now (t .exit)) (now (w .exit)))) ⌝ }
 {
     let j = goal_leaf(f, w, q);
     if j < q.unordered {

@@ -25,13 +25,35 @@ sub-i : tie.Need-sub-i Inv-loop μ-loop
 sub-i c = search needs
 
 fires-requires : tie.Need-fires-requires Inv-loop μ-loop
-fires-requires c κs = omega (arith, walk-fits (start-of (c .before .before .before .before .before .pre)) (c .before .before .loop .inv .2 _ _ _ (start-of (c .before .before .before .before .before .pre))))
+fires-requires c κs =
+    omega (
+      arith,
+      walk-fits
+          (start-of (c .before .before .before .before .before .pre))
+          (c .before .before .loop .inv .2 _ _ _ (start-of (c .before .before .before .before .before .pre))),
+    )
 
 sub-n : tie.Need-sub-n Inv-loop μ-loop
-sub-n c = walk-some (start-of (c .before .before .before .before .before .before .before .before .pre)) _ (c .before .before .before .before .before .loop .inv .2 _ _ _ (start-of (c .before .before .before .before .before .before .before .before .pre))) (before-one (c .before .before .before .before .loop-test .taken)) (c .before .before .fires .ensures) (c .if1 .taken)
+sub-n c =
+    walk-some
+    (start-of (c .before .before .before .before .before .before .before .before .pre))
+    _
+    (c .before .before .before .before .before .loop .inv .2 _ _ _
+    (start-of (c .before .before .before .before .before .before .before .before .pre)))
+    (before-one (c .before .before .before .before .loop-test .taken))
+    (c .before .before .fires .ensures)
+    (c .if1 .taken)
 
 fire-one-requires : tie.Need-fire-one-requires Inv-loop μ-loop
-fire-one-requires c κs = omega (arith, walk-fits (start-of (c .before .before .before .before .before .before .before .before .before .before .pre)) (c .before .before .before .before .before .before .before .loop .inv .2 _ _ _ (start-of (c .before .before .before .before .before .before .before .before .before .before .pre))), c .before .before .if1 .taken)
+fire-one-requires c κs =
+    omega (
+      arith,
+      c .before .before .if1 .taken,
+      walk-fits
+          (start-of (c .before .before .before .before .before .before .before .before .before .before .pre))
+          (c .before .before .before .before .before .before .before .loop .inv .2 _ _ _
+          (start-of (c .before .before .before .before .before .before .before .before .before .before .pre))),
+    )
 
 loop-less : tie.Need-loop-less Inv-loop μ-loop
 loop-less c = search needs
@@ -44,8 +66,11 @@ loop-again c = (
       let x = c .before .before .before .before .before .before .before .before .before .before .before .loop .inv .2 m nf base st in
       let d = before-one (c .before .before .before .before .before .before .before .before .before .before .loop-test .taken) in
       let e = c .before .before .before .before .before .before .before .before .fires .ensures in
-      walk-fires st _ x d e (c .before .before .before .before .before .before .if1 .taken) _ (before-one (walk-some st _ x d e (c .before .before .before .before .before .before .if1 .taken))) (c .before .before .before .fire-one .ensures .1 .0)
-      (c .before .before .before .fire-one .ensures .1 .1) (c .before .before .before .fire-one .ensures .0),
+      let h = c .before .before .before .before .before .before .if1 .taken in
+      walk-fires st _ x d e h _ (before-one (walk-some st _ x d e h))
+      (c .before .before .before .fire-one .ensures .1 .0)
+      (c .before .before .before .fire-one .ensures .1 .1)
+      (c .before .before .before .fire-one .ensures .0),
 )
 
 loop-less-2 : tie.Need-loop-less-2 Inv-loop μ-loop
@@ -55,7 +80,12 @@ loop-again-2 : tie.Need-loop-again-2 Inv-loop μ-loop
 loop-again-2 c = (
   search needs,
   search needs,
-  λ m nf base st. walk-past st _ (c .before .before .before .before .before .loop .inv .2 m nf base st) (before-one (c .before .before .before .before .loop-test .taken)) (c .before .before .fires .ensures) (c .if1 .left),
+  λ m nf base st.
+      walk-past st _
+      (c .before .before .before .before .before .loop .inv .2 m nf base st)
+      (before-one (c .before .before .before .before .loop-test .taken))
+      (c .before .before .fires .ensures)
+      (c .if1 .left),
 )
 
 same-length : tie.Need-same-length Inv-loop μ-loop
@@ -65,7 +95,11 @@ same-length-2 : tie.Need-same-length-2 Inv-loop μ-loop
 same-length-2 c = search needs
 
 returns : tie.Need-returns Inv-loop μ-loop
-returns c = walk-ends (start-of (c .before .before .before .before .pre)) (c .before .loop .inv .2 _ _ _ (start-of (c .before .before .before .before .pre))) (search needs)
+returns c =
+    walk-ends
+    (start-of (c .before .before .before .before .pre))
+    (c .before .loop .inv .2 _ _ _ (start-of (c .before .before .before .before .pre)))
+    (search needs)
 
 pub fire-all-spec : {M : Type 1} → statement M
 fire-all-spec =

@@ -37,7 +37,10 @@ remove-requires : tie.Need-remove-requires
 remove-requires c κs = search needs
 
 push-requires : tie.Need-push-requires
-push-requires c κs = room-without (c .before .before .remove .ensures .0) (c .before .before .before .before .before .before .before .before .before .before .before .before .before .before .before .before .before .before .pre .0)
+push-requires c κs =
+    room-without
+    (c .before .before .remove .ensures .0)
+    (c .before .before .before .before .before .before .before .before .before .before .before .before .before .before .before .before .before .before .pre .0)
 
 same-length : tie.Need-same-length
 same-length c = search needs
@@ -49,9 +52,18 @@ returns : tie.Need-returns
 returns c = (
   c .before .push .ensures .0 ∙ ap pushed (c .before .before .before .before .remove .ensures .0),
   (
-    node-fired _ _ (c .before .before .before .before .before .before .before .before .put .ensures) (c .before .before .before .before .before .before .before .before .before .before .before .before .term-at .ensures) (c .before .before .before .before .before .before .before .before .before .before .term-at2 .ensures),
-    area-fired _ _ _ _ (c .before .before .before .before .before .before .before .before .before .before .before .before .before .before .before .before .before .before .before .before .args .f .now) _ (c .before .before .before .before .remove .ensures .0) (c .before .before .before .before .remove .ensures .1)
-        (c .before .push .ensures .1) (c .before .before .before .before .before .before .before .before .before .before .before .before .before .before .right .ensures) (c .before .before .before .before .before .before .before .before .before .before .before .before .before .before .before .formula-at .ensures),
+    node-fired _ _
+        (c .before .before .before .before .before .before .before .before .put .ensures)
+        (c .before .before .before .before .before .before .before .before .before .before .before .before .term-at .ensures)
+        (c .before .before .before .before .before .before .before .before .before .before .term-at2 .ensures),
+    area-fired _ _ _ _
+        (c .before .before .before .before .before .before .before .before .before .before .before .before .before .before .before .before .before .before .before .before .args .f .now)
+        _
+        (c .before .before .before .before .remove .ensures .0)
+        (c .before .before .before .before .remove .ensures .1)
+        (c .before .push .ensures .1)
+        (c .before .before .before .before .before .before .before .before .before .before .before .before .before .before .right .ensures)
+        (c .before .before .before .before .before .before .before .before .before .before .before .before .before .before .before .formula-at .ensures),
   ),
 )
 

@@ -3,34 +3,22 @@ use Rattle.firing.proofs.Walk.{place-as, place-none}
 use borrow.Author.Needs.{needs}
 use Rattle.firing.proofs.goal_leaf.Statement.{statement}
 use Rattle.firing.proofs.goal_leaf.Tie as tie
-use Rattle.firing.proofs.goal_leaf.Reads as reads
-use Rattle.firing.proofs.goal_leaf.Lts as lts
-use Rattle.firing.proofs.find_leaf.Reads as find-leaf-reads
-use Rattle.formula.proofs.kind_of.Reads as kind-of-reads
-use Rattle.formula.proofs.leaf_kind.Reads as leaf-kind-reads
-use Rattle.formula.proofs.word.Reads as word-reads
 
--- src/lib.rt:131:9
 word-requires : tie.Need-word-requires
 word-requires c κs = search needs
 
--- src/lib.rt:132:27
 kind-of-requires : tie.Need-kind-of-requires
 kind-of-requires c κs = search needs
 
--- src/lib.rt:132:8
 leaf-kind-requires : tie.Need-leaf-kind-requires
 leaf-kind-requires c κs = search needs
 
--- src/lib.rt:133:9
 find-leaf-requires : tie.Need-find-leaf-requires
 find-leaf-requires c κs = search needs
 
--- src/lib.rt:133:9
 returns : tie.Need-returns
 returns c = place-as _ _ _ _ (c .find-leaf .ensures) (c .before .before .before .before .word .ensures)
 
--- src/lib.rt:127:1
 returns-2 : tie.Need-returns-2
 returns-2 c = place-none _ _ _ _ (c .before .before .before .word .ensures) (c .before .before .kind-of .ensures) (c .before .leaf-kind .ensures) (c .if1 .left)
 

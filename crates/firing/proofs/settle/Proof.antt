@@ -5,49 +5,46 @@ use Rattle.representation.proofs.Settle.{settle-leaf}
 use Rattle.firing.proofs.Fall.{absent-by}
 use Rattle.firing.proofs.settle.Statement.{statement}
 use Rattle.firing.proofs.settle.Tie as tie
-use Rattle.firing.proofs.settle.Reads as reads
-use Rattle.firing.proofs.settle.Lts as lts
-use Rattle.context.proofs.term_at.Reads as term-at-reads
-use Rattle.firing.proofs.fire.Reads as fire-reads
-use Rattle.firing.proofs.goal_leaf.Reads as goal-leaf-reads
 
--- src/lib.rt:176:9
 goal-leaf-requires : tie.Need-goal-leaf-requires
 goal-leaf-requires c κs = search needs
 
--- src/lib.rt:178:37
 mul-term-at : tie.Need-mul-term-at
 mul-term-at c = search needs
 
--- src/lib.rt:178:37
 add-term-at : tie.Need-add-term-at
 add-term-at c = search needs
 
--- src/lib.rt:178:13
 term-at-requires : tie.Need-term-at-requires
 term-at-requires c κs = search needs
 
--- src/lib.rt:179:9
 same-length : tie.Need-same-length
 same-length c = search needs
 
--- src/lib.rt:179:9
 returns : tie.Need-returns
-returns c = λ taken. turns-end (settle-leaf taken (c .before .before .before .before .before .before .before .before .before .pre .0) (c .before .before .before .before .before .goal-leaf .ensures) (c .before .before .before .if1 .taken) (c .term-at .ensures))
+returns c =
+    λ taken.
+    turns-end (settle-leaf taken
+    (c .before .before .before .before .before .before .before .before .before .pre .0)
+    (c .before .before .before .before .before .goal-leaf .ensures)
+    (c .before .before .before .if1 .taken)
+    (c .term-at .ensures))
 
--- src/lib.rt:181:5
 fire-requires : tie.Need-fire-requires
-fire-requires c κs = (c .before .before .before .before .before .before .before .before .pre .0, (c .before .before .before .before .before .before .before .before .pre .1, absent-by (c .before .before .before .before .goal-leaf .ensures) (c .before .before .if1 .left)))
+fire-requires c κs = (
+  c .before .before .before .before .before .before .before .before .pre .0,
+  (
+    c .before .before .before .before .before .before .before .before .pre .1,
+    absent-by (c .before .before .before .before .goal-leaf .ensures) (c .before .before .if1 .left),
+  ),
+)
 
--- src/lib.rt:164:1
 same-length-2 : tie.Need-same-length-2
 same-length-2 c = search needs
 
--- src/lib.rt:164:1
 same-length-3 : tie.Need-same-length-3
 same-length-3 c = search needs
 
--- src/lib.rt:164:1
 returns-2 : tie.Need-returns-2
 returns-2 c = c .before .before .before .fire .ensures
 
