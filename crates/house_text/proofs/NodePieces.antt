@@ -61,17 +61,17 @@ term-deep (Asc t A) = omega arith
 term-deep Unit′ = omega arith
 
 module _ (words terms : List ℕ) (names : List (List ℕ)) where
-  abbrev pub F : ℕ → List ℕ
-  F a = formText (form (book words) a)
+  abbrev pub formulaText : ℕ → List ℕ
+  formulaText a = formText (form (book words) a)
 
-  abbrev pub E : ℕ → ℕ
-  E a = formDepth (form (book words) a)
+  abbrev pub formulaDepth : ℕ → ℕ
+  formulaDepth a = formDepth (form (book words) a)
 
-  abbrev pub T : ℕ → List ℕ
-  T a = termText names (term (book words) (nodes terms) a)
+  abbrev pub childText : ℕ → List ℕ
+  childText a = termText names (term (book words) (nodes terms) a)
 
-  abbrev pub D : ℕ → ℕ
-  D a = termDepth (term (book words) (nodes terms) a)
+  abbrev pub childDepth : ℕ → ℕ
+  childDepth a = termDepth (term (book words) (nodes terms) a)
 
   -- no level is left for a term
   pub no-term : (levels i : ℕ) → levels ≡ 0 → none ≡ termPiece words terms names levels i
@@ -95,32 +95,36 @@ module _ (words terms : List ℕ) (names : List (List ℕ)) where
     held k = joined (some (keyword k)) (heldPiece l (fieldsOf k) (a ∷ b ∷ c ∷ d ∷ e ∷ []))
 
     -- a child, and a formula, behind a space
-    abbrev sub : (x : ℕ) → Whole (joined (some (bytes " ")) (upTo l (D x) (T x))) l (D x) (bytes " " ++ T x)
-    sub x = before-it (bytes " ") (whole l (D x) (T x))
+    abbrev childPiece : (x : ℕ) →
+        Whole (joined (some (bytes " ")) (upTo l (childDepth x) (childText x))) l (childDepth x) (bytes " " ++ childText x)
+    childPiece x = before-it (bytes " ") (whole l (childDepth x) (childText x))
 
-    abbrev for : (x : ℕ) → Whole (joined (some (bytes " ")) (upTo l (E x) (F x))) l (E x) (bytes " " ++ F x)
-    for x = before-it (bytes " ") (whole l (E x) (F x))
+    abbrev ascribedPiece : (x : ℕ) →
+        Whole (joined (some (bytes " ")) (upTo l (formulaDepth x) (formulaText x))) l (formulaDepth x) (bytes " " ++ formulaText x)
+    ascribedPiece x = before-it (bytes " ") (whole l (formulaDepth x) (formulaText x))
 
     -- the kinds one by one
     pub held-piece : (k : ℕ) → (k ≡ 0 → ⊥) →
-        Whole (held k) (suc l) (pieceDepth D E (pieceOf k a b c d e)) (pieceText names T F (pieceOf k a b c d e))
+        Whole (held k) (suc l) (pieceDepth childDepth formulaDepth (pieceOf k a b c d e))
+        (pieceText names childText formulaText (pieceOf k a b c d e))
     unfolding keyword keywords fieldsOf pieceOf fieldPiece formPiece termPiece joined bytes
     held-piece zero n = absurd (n refl)
-    held-piece (suc zero) n = above (before-it (keyword 1) (beside (sub a) (behind-it (sub b) (bytes ")"))))
-    held-piece (suc (suc zero)) n = above (before-it (keyword 2) (behind-it (sub a) (bytes ")")))
-    held-piece (suc (suc (suc zero))) n = above (before-it (keyword 3) (behind-it (sub a) (bytes ")")))
+    held-piece (suc zero) n = above (before-it (keyword 1) (beside (childPiece a) (behind-it (childPiece b) (bytes ")"))))
+    held-piece (suc (suc zero)) n = above (before-it (keyword 2) (behind-it (childPiece a) (bytes ")")))
+    held-piece (suc (suc (suc zero))) n = above (before-it (keyword 3) (behind-it (childPiece a) (bytes ")")))
     held-piece (suc (suc (suc (suc zero)))) n =
-        above (before-it (keyword 4) (before-it (bytes " " ++ bytesOf names a) (behind-it (sub b) (bytes ")"))))
-    held-piece (suc (suc (suc (suc (suc zero))))) n = above (before-it (keyword 5) (beside (sub a) (behind-it (sub b) (bytes ")"))))
+        above (before-it (keyword 4) (before-it (bytes " " ++ bytesOf names a) (behind-it (childPiece b) (bytes ")"))))
+    held-piece (suc (suc (suc (suc (suc zero))))) n =
+        above (before-it (keyword 5) (beside (childPiece a) (behind-it (childPiece b) (bytes ")"))))
     held-piece (suc (suc (suc (suc (suc (suc zero)))))) n = alone l (bytes "()")
-    held-piece (suc (suc (suc (suc (suc (suc (suc zero))))))) n = above (before-it (keyword 7) (behind-it (sub a) (bytes ")")))
-    held-piece (suc (suc (suc (suc (suc (suc (suc (suc zero)))))))) n = above (before-it (keyword 8) (behind-it (sub a) (bytes ")")))
+    held-piece (suc (suc (suc (suc (suc (suc (suc zero))))))) n = above (before-it (keyword 7) (behind-it (childPiece a) (bytes ")")))
+    held-piece (suc (suc (suc (suc (suc (suc (suc (suc zero)))))))) n = above (before-it (keyword 8) (behind-it (childPiece a) (bytes ")")))
     held-piece (suc (suc (suc (suc (suc (suc (suc (suc (suc zero))))))))) n =
-        above (before-it (keyword 9) (beside (sub a) (before-it (bytes " " ++ bytesOf names b)
-        (beside (sub c) (before-it (bytes " " ++ bytesOf names d) (behind-it (sub e) (bytes ")")))))))
+        above (before-it (keyword 9) (beside (childPiece a) (before-it (bytes " " ++ bytesOf names b)
+        (beside (childPiece c) (before-it (bytes " " ++ bytesOf names d) (behind-it (childPiece e) (bytes ")")))))))
     held-piece (suc (suc (suc (suc (suc (suc (suc (suc (suc (suc zero)))))))))) n =
-        above (before-it (keyword 10) (behind-it (sub a) (bytes ")")))
+        above (before-it (keyword 10) (behind-it (childPiece a) (bytes ")")))
     held-piece (suc (suc (suc (suc (suc (suc (suc (suc (suc (suc (suc zero))))))))))) n =
-        above (before-it (keyword 11) (beside (sub a) (behind-it (for b) (bytes ")"))))
+        above (before-it (keyword 11) (beside (childPiece a) (behind-it (ascribedPiece b) (bytes ")"))))
     held-piece (suc (suc (suc (suc (suc (suc (suc (suc (suc (suc (suc (suc zero)))))))))))) n = alone l (bytes "()")
     held-piece (suc (suc (suc (suc (suc (suc (suc (suc (suc (suc (suc (suc (suc k))))))))))))) n = alone l (bytes "()")

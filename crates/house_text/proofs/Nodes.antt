@@ -17,7 +17,7 @@ use Rattle.proof_term.specs.Kinds.{fieldAs, fieldsAs}
 use Rattle.house_text.specs.Laid.{joined}
 use Rattle.house_text.specs.Pieces.{upTo, book, nodes, Given, FieldIn, termPiece, fieldPiece, keyword}
 use Rattle.house_text.proofs.Levels.{Whole, alone}
-use Rattle.house_text.proofs.NodePieces.{F, E, T, D, heldPiece, held-piece}
+use Rattle.house_text.proofs.NodePieces.{formulaText, formulaDepth, childText, childDepth, heldPiece, held-piece}
 
 -- fields that all refer to formulas below m and nodes below n
 abbrev FieldsIn : ℕ → ℕ → List Field → List ℕ → Type 0
@@ -108,10 +108,10 @@ module _ {words terms : List ℕ} {i k : ℕ} (n : NodeRead words terms i k) {a 
     module _ (names : List (List ℕ)) (levels : ℕ) (some-left : levels ≡ 0 → ⊥) where
       -- the depth and the text of what a node says
       abbrev depths : Piece → ℕ
-      depths = pieceDepth (D words terms names) (E words terms names)
+      depths = pieceDepth (childDepth words terms names) (formulaDepth words terms names)
 
       abbrev texts : Piece → List ℕ
-      texts = pieceText names (T words terms names) (F words terms names)
+      texts = pieceText names (childText words terms names) (formulaText words terms names)
 
       -- a piece that is that of the node's numbers is that of the term
       by-node : {p : Option (List ℕ)} → Whole p (suc (levels - 1)) (depths (pieceOf k a b c d e)) (texts (pieceOf k a b c d e)) →
@@ -120,9 +120,9 @@ module _ {words terms : List ℕ} {i k : ℕ} (n : NodeRead words terms i k) {a 
       by-node {p} w =
           let s : Piece = pieceOf k a b c d e in
           let more : suc (levels - 1) ≡ levels = omega arith in
-          let depth : depths s ≡ D words terms names i =
+          let depth : depths s ≡ childDepth words terms names i =
           sym (depth-by-node (book words) (nodes terms) (length words) (n .given .lawful) i in-nodes ∙ ap depths seen) in
-          let text : texts s ≡ T words terms names i =
+          let text : texts s ≡ childText words terms names i =
           sym (text-by-node (book words) (nodes terms) names (length words) (n .given .lawful) i in-nodes ∙ ap texts seen) in
           w .is ∙ ap (λ (m : ℕ). upTo m (depths s) (texts s)) more ∙ ap₂ (upTo levels) depth text
 

@@ -20,6 +20,7 @@ ghost use Rattle.house_text.specs.Tested.{draft, refusedBy, numberOf, pl
 use proof_term::Field;
 use proof_term::Fields;
 use proof_term::WIDTH;
+use proof_term::number;
 
 // Each function that lays a piece returns the next place; one past the end says that the text has no room, and then nothing more is laid.
 fn lay_byte(buf: &mut [u8], at: usize, b: u8) -> usize
@@ -209,8 +210,7 @@ fn lay_term(
     i: usize,
     levels: usize,
 ) -> usize
-    requires { ⌜ Given (now f) (now t) ⌝ }
-    requires { ⌜ i < length (now t) / nodeWidth ⌝ }
+    requires { ⌜ Given (now f) (now t) × (i < length (now t) / nodeWidth) ⌝ }
     ensures { λ r.
         ⌜ Laid (termPiece (now (f .entry)) (now (t .entry)) (namesIn (now (names .entry))) levels i) (now (buf .entry)) at
         (now (buf .exit)) r ⌝ }
@@ -222,64 +222,19 @@ fn lay_term(
         return at;
     }
     let node = i * WIDTH;
-    let kind = proof_term::number(t, node);
+    let kind = number(t, node);
     if kind == 0 {
-        return lay_name(buf, at, names, proof_term::number(t, node + 1));
+        return lay_name(buf, at, names, number(t, node + 1));
     }
     let below = levels - 1;
     let opened = lay_keyword(buf, at, kind);
     match proof_term::fields_of(kind) {
         Fields::Held(a, b, c, d, e) => {
-            let first = lay_field(
-                buf,
-                opened,
-                f,
-                t,
-                names,
-                a,
-                proof_term::number(t, node + 1),
-                below,
-            );
-            let second = lay_field(
-                buf,
-                first,
-                f,
-                t,
-                names,
-                b,
-                proof_term::number(t, node + 2),
-                below,
-            );
-            let third = lay_field(
-                buf,
-                second,
-                f,
-                t,
-                names,
-                c,
-                proof_term::number(t, node + 3),
-                below,
-            );
-            let fourth = lay_field(
-                buf,
-                third,
-                f,
-                t,
-                names,
-                d,
-                proof_term::number(t, node + 4),
-                below,
-            );
-            let fifth = lay_field(
-                buf,
-                fourth,
-                f,
-                t,
-                names,
-                e,
-                proof_term::number(t, node + 5),
-                below,
-            );
+            let first = lay_field(buf, opened, f, t, names, a, number(t, node + 1), below);
+            let second = lay_field(buf, first, f, t, names, b, number(t, node + 2), below);
+            let third = lay_field(buf, second, f, t, names, c, number(t, node + 3), below);
+            let fourth = lay_field(buf, third, f, t, names, d, number(t, node + 4), below);
+            let fifth = lay_field(buf, fourth, f, t, names, e, number(t, node + 5), below);
             lay(buf, fifth, b")")
         }
         Fields::Refused => lay(buf, opened, b")"),
