@@ -1,7 +1,7 @@
 -- What the search by right comes to from the first sequent is what theory's whole search answers; so is the shortage of nodes before it.
 -- Assumes nothing.
 use Prim.Native.Nat.{ℕ, _+_, _≤_, _<_}
-use mathlib.Core.Path.{_≡_, refl, ap, _∙_}
+use mathlib.Core.Path.{_≡_, refl, sym, ap, _∙_, subst}
 use mathlib.Core.Option.{none}
 use mathlib.Core.Logic.{_≢_}
 use mathlib.Core.List.{List}
@@ -17,16 +17,18 @@ use Rattle.theory.specs.Meter.{fits, spend}
 use Rattle.theory.specs.Search.{idents, given, whole, prove}
 use Rattle.theory.specs.Call.{Claim, givenBook, refusal, searchLimits, searched}
 use Rattle.theory.proofs.Called.{only-answer}
+use Rattle.context.specs.declared.Sequent.{Sequent}
+use Rattle.context.specs.declared.Limits.{Limits}
 use Rattle.context.specs.declared.Answer.{Answer}
 use Rattle.context.specs.declared.Answer.the-variants.{Found, Failed, Short}
 use Rattle.context.specs.Moves.{limitsOf}
 use Rattle.context.specs.Area.{Rec}
 use Rattle.representation.specs.Reading.{Lent, lent, seqOf}
-use Rattle.representation.specs.Keeping.{After}
+use Rattle.representation.specs.Keeping.{After, Rep}
 use Rattle.representation.specs.Meaning.{Says, says-found, says-failed, says-short, Comes, asks, Meets}
 use Rattle.representation.proofs.Same.{same-refl}
 use Rattle.claim.specs.Start.{firstSequent, firstState, limitsIn, assumedIn, Ends}
-use Rattle.claim.proofs.First.{idents-many, first-within, startState, start-shows, start-sequent, start-lengths}
+use Rattle.claim.proofs.First.{idents-many, start-rep, first-within, startState, start-shows, start-sequent, start-lengths}
 
 -- what the code says is finished
 said-finished : {y : Lent} {r : Answer} {a : M.Answer} → Says y r a → a ≢ M.unfinished
@@ -94,3 +96,30 @@ module _ (x : Claim) (w : List Rec) (passed : refusal x ≡ none) (records : len
         comes : Comes y r (λ d. asks (limitsIn x) (skipped (namesIn (x .text))) d M.byRight
             (seqOf ((assumedIn x w) .records) (firstSequent (length (x .assumed)) (x .goal))) (startState x w passed records room))
         comes = meets .means (startState x w passed records room) (start-shows x w passed records room)
+
+-- four values at once
+moved : {A B C D : Type 0} (P : A → B → C → D → Type 0) {a a1 : A} {b b1 : B} {c c1 : C} {d d1 : D} → a ≡ a1 → b ≡ b1 → c ≡ c1 → d ≡ d1 →
+    P a b c d → P a1 b1 c1 d1
+moved P {a} {a1} {b} {b1} {c} {c1} {d} {d1} ea eb ec ed h =
+    subst (P a1 b1 c1) ed (subst (λ v. P a1 b1 v d) ec (subst (λ v. P a1 v c d) eb (subst (λ v. P v b c d) ea h)))
+
+-- the start in the code: its limits, and the numbers, records and sequent after the assumptions
+module _ (x : Claim) (w : List Rec) (passed : refusal x ≡ none) (records : length w ≡ x .records) {m : Limits} {t1 : List ℕ}
+    {w1 : List Rec} {q : Sequent} (em : m ≡ limitsIn x) (et : t1 ≡ (assumedIn x w) .numbers) (ew : w1 ≡ (assumedIn x w) .records)
+    (eq : q ≡ firstSequent (length (x .assumed)) (x .goal)) (room : length (x .assumed) ≤ m .terms) where
+  room-in : length (x .assumed) ≤ (limitsIn x) .terms
+  room-in = omega (arith, room, ap (λ (v : Limits). v .terms) em)
+
+  -- it has what right asks
+  pub right-asks : Rep m (lent (x .words) t1 w1) (firstState (x .count) (length (x .assumed))) q
+  right-asks = moved (λ v t r u. Rep v (lent (x .words) t r) (firstState (x .count) (length (x .assumed))) u)
+      (sym em) (sym et) (sym ew) (sym eq)
+      (start-rep x w passed records room-in)
+
+  -- and what right comes to ends the whole search
+  pub right-ends : {r : Answer} {y : Lent} → Meets M.byRight m (skipped (namesIn (x .text))) (lent (x .words) t1 w1)
+      (firstState (x .count) (length (x .assumed))) q r y → Ends x w r y
+  right-ends {r} {y} h = ends-right x w passed records room-in
+      (moved (λ v t u p. Meets M.byRight v (skipped (namesIn (x .text))) (lent (x .words) t u)
+      (firstState (x .count) (length (x .assumed))) p r y)
+      em et ew eq h)

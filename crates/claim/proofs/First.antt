@@ -8,6 +8,7 @@ use native.Mathlib.Numerals.{add-one}
 use lib.ListN.{length, set}
 use Rattle.theory.specs.Form.{Book}
 use Rattle.theory.specs.Term.{Node, by, ident, assumed}
+use Rattle.theory.specs.NameText.{namesIn}
 use Rattle.theory.specs.Layout.{inNumbers}
 use Rattle.theory.specs.Refusal.{highestLevel}
 use Rattle.theory.specs.Meter as M
@@ -74,6 +75,10 @@ module _ (x : Claim) (w : List Rec) (passed : refusal x ≡ none) (whole : lengt
   top : (limitsIn x) .levels ≡ 63
   unfolding highestLevel orZero
   top = ap (λ (n : ℕ). orZero (highestLevel n)) (p .records)
+
+  -- the names are as many as the assumptions
+  pub few-names : length (namesIn (x .text)) ≤ 64
+  few-names = omega (arith, p .named, p .few)
 
   abbrev unwritten : Lent
   unwritten = lent (x .words) (x .terms) w
