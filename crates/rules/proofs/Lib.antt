@@ -3,3 +3,4 @@ pub mod Nests
 pub mod Charged
 pub mod LeftTurns
 pub mod LeftMakes
+pub mod Turning
