@@ -12,7 +12,7 @@ ghost use Rattle.theory.specs.Meter.{byLeft};
 ghost use Rattle.representation.specs.Reading.{lent, putNodes};
 ghost use Rattle.representation.specs.Keeping.{Rep};
 ghost use Rattle.representation.specs.Closing.{Closes};
-ghost use Rattle.representation.specs.Turning.{Turns};
+ghost use Rattle.representation.specs.Turning.{Turns, Turned};
 ghost use Rattle.rules.specs.Pieces.{curried, composed};
 ghost use Rattle.rules.specs.Last.{Last, LastFrom, nested};
 use context::Answer;
@@ -350,4 +350,32 @@ pub fn left_rule(
     }
     let q1 = context::append(w, rest, a, x);
     Next::Go(st, q1)
+}
+
+// One turn of left: its entry is counted, then its rule; where nothing is ordered, search's entry and its rules 1 and 2.
+pub fn turn(
+    f: &mut [u32],
+    t: &mut [u16],
+    w: &mut [[u16; 2]],
+    k: &[u8],
+    m: Limits,
+    st: State,
+    q: Sequent,
+) -> Next
+    requires { ⌜ Rep m (lent (now f) (now t) (now w)) st q ⌝ }
+    requires { ⌜ length (namesIn (now k)) ≤ 64 ⌝ }
+    ensures { λ r. ⌜ Turned m (skipped (namesIn (now (k .entry)))) (lent (now (f .entry)) (now (t .entry)) (now (w .entry))) st q r
+        (lent (now (f .exit)) (now (t .exit)) (now (w .exit))) ⌝ }
+{
+    if m.steps <= st.steps {
+        return Next::End(Answer::Short(6, st));
+    }
+    let s = context::counted(st);
+    if 0 < q.ordered {
+        return left_rule(f, t, w, k, m, s, q);
+    }
+    if m.steps <= s.steps {
+        return Next::End(Answer::Short(6, s));
+    }
+    firing::settle(f, t, w, m, context::counted(s), q)
 }
