@@ -1,6 +1,6 @@
 -- The rules of left that make two formulas and two names, as the code does them: (A∧B)→C and (A∨B)→C. Assumes nothing.
-use Prim.Native.Nat.{ℕ, suc, _+_, _-_, _<_, _≤_}
-use mathlib.Core.Path.{_≡_, refl, sym, ap, ap₂, _∙_, subst}
+use Prim.Native.Nat.{ℕ, suc, _+_, _<_, _≤_}
+use mathlib.Core.Path.{_≡_, refl, ap, ap₂, _∙_}
 use mathlib.Core.List.{List, [], _∷_, _++_}
 use native.Mathlib.Omega.{arith}
 use lib.ListN.{length, set, length-append}
@@ -25,8 +25,8 @@ use Rattle.representation.specs.Making.{Tested, Passes}
 use Rattle.representation.specs.Turning.{Turns, turns-on, turns-end}
 use Rattle.representation.proofs.Areas.{fields}
 use Rattle.representation.proofs.Charge.{passes}
-use Rattle.representation.proofs.Left.{topFormula, topTerm}
-use Rattle.representation.proofs.LeftImpl.{fromOf, toOf, ends-in}
+use Rattle.representation.proofs.Left.{topTerm}
+use Rattle.representation.proofs.LeftImpl.{toOf, ends-in}
 use Rattle.representation.proofs.LeftNew as New
 use Rattle.representation.proofs.LeftNew.{firstOf, secondOf, curry-parts, left-curry-short, left-curry-made, left-curry}
 use Rattle.representation.proofs.LeftNew.{sides-parts, left-sides-short, left-sides-made, left-sides}

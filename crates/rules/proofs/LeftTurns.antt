@@ -1,9 +1,9 @@
 -- One rule of left, as the code does it: what it comes to, from what each of its calls left. Assumes nothing.
-use Prim.Native.Nat.{ℕ, suc, _+_, _-_, _<_, _≤_}
+use Prim.Native.Nat.{ℕ, suc, _+_, _<_}
 use mathlib.Core.Path.{_≡_, refl, sym, ap, ap₂, _∙_, subst}
 use mathlib.Core.List.{List, [], _∷_, _++_}
 use native.Mathlib.Omega.{arith}
-use lib.ListN.{length, set}
+use lib.ListN.{set}
 use Rattle.theory.specs.Term.{Piece, fst, snd, unit, app, abort, sixOf}
 use Rattle.theory.specs.Meter as M
 use Rattle.theory.specs.Meter.{lacking}
@@ -20,7 +20,7 @@ use Rattle.context.specs.Area.{Rec, rec, formulaAt, termAt, pushPlace, appendPl
 use Rattle.representation.specs.Reading.{Lent, lent, kindAt, leftAt, rightAt, seqOf, putNodes}
 use Rattle.representation.specs.Keeping.{Rep}
 use Rattle.representation.specs.Closing.{Closes}
-use Rattle.representation.specs.Making.{Made, Moved, Tested}
+use Rattle.representation.specs.Making.{Moved, Tested}
 use Rattle.representation.specs.Turning.{Turns, turns-on, turns-end, turns-split}
 use Rattle.representation.proofs.Areas.{fields}
 use Rattle.representation.proofs.Left.{topFormula, topTerm, topEntry, others, drop-moved, settle-moved, left-true, left-false, left-leaf}

@@ -1,12 +1,12 @@
 -- What the writers of words and nodes leave, store by store. Assumes nothing.
-use Prim.Native.Nat.{ℕ, suc, _+_, _%_, _≤_, _<_}
-use mathlib.Core.Path.{_≡_, refl, sym, ap, ap₂, _∙_}
+use Prim.Native.Nat.{ℕ, suc, _+_, _%_, _<_}
+use mathlib.Core.Path.{_≡_, sym, ap, ap₂, _∙_}
 use mathlib.Core.List.{List, [], _∷_}
 use native.Mathlib.Omega.{arith}
 use native.Mathlib.Nat.{mod-eq-of-lt}
-use lib.ListN.{length, set}
+use lib.ListN.{length}
 use Rattle.theory.specs.Form.{isImp, word, pack}
-use Rattle.theory.specs.Term.{Piece, ident, pair, fn, app, asc, sixOf}
+use Rattle.theory.specs.Term.{Piece, sixOf}
 use Rattle.proof_term.specs.Put.{putNode}
 use Rattle.context.specs.declared.State.{State}
 use Rattle.context.specs.declared.Limits.{Limits}
