@@ -110,6 +110,12 @@ module _ {m : Limits} {taken : List (List ℕ)} {x : Lent} {s : State} {q : Sequ
         carries = p .carries;
       }
 
+-- a half in the place of a heavier record
+pub half-less : {m : Limits} (taken : List (List ℕ)) {x y : Lent} {s s1 : State} {q q1 : Sequent} {a g : ℕ} → Rep m x s q → HalfOf x s q a →
+    g ≡ fresh taken (s .indices) → Half m x s q a g (Go s1 q1) y →
+    weigh M.byLeft (y .words) (s1 .formulas) (y .records) q1 < weigh M.byLeft (x .words) (s .formulas) (x .records) q
+half-less taken {a = a} rep ho eg (Prepared.ready t z mk up) = half-falls taken rep (ho .some) eg a (ho .inside) (ho .lighter) mk
+
 -- the last ordered record is a disjunction
 module _ {m : Limits} (taken : List (List ℕ)) {x : Lent} {s : State} {q : Sequent} (rep : Rep m x s q) (sp : Splits x q) where
   pub halves-of : {a : ℕ} → a ≡ topFormula x q → HalfOf x s q (leftAt (x .words) a) × HalfOf x s q (rightAt (x .words) a)
@@ -139,11 +145,6 @@ module _ {m : Limits} (taken : List (List ℕ)) {x : Lent} {s : State} {q : Sequ
       ea ∙ sym top-back,
       ap (rightAt (y .words)) ea ∙ ap rightOf (back .frame .words .at (topFormula x q) (top-inside taken rep (sp .some) .formula-in)),
     )
-
-  pub half-less : {a g : ℕ} {y : Lent} {s1 : State} {q1 : Sequent} → HalfOf x s q a → g ≡ fresh taken (s .indices) →
-      Half m x s q a g (Go s1 q1) y →
-      weigh M.byLeft (y .words) (s1 .formulas) (y .records) q1 < weigh M.byLeft (x .words) (s .formulas) (x .records) q
-  half-less {a} ho eg (Prepared.ready t z mk up) = half-falls taken rep (ho .some) eg a (ho .inside) (ho .lighter) mk
 
   module _ {g a : ℕ} (eg : g ≡ fresh taken (s .indices)) (ea : a ≡ leftAt (x .words) (topFormula x q)) where
     half-first : {y : Lent} {r : Answer} → Branched m taken x s q a g r y →
