@@ -1,4 +1,4 @@
--- The same at an answer that is known. Assumes nothing.
+-- What a call came to, at the answer that the code has matched; and the positions that rule 4 tries. Assumes nothing.
 use Prim.Native.Nat.{ℕ, _<_}
 use mathlib.Core.Path.{_≡_, refl, sym, subst}
 use mathlib.Core.Bool.{Bool, true, false, _&&_}
