@@ -14,6 +14,13 @@ ghost use Rattle.representation.specs.Turning.{Splits, tries};
 ghost use Rattle.representation.specs.Trying.{TriesAt};
 ghost use Rattle.premises.specs.Prepared.{Nested};
 ghost use Rattle.premises.specs.Asked.{Raised, HalfOf, Branched, FirstOf, SecondOf};
+ghost use mathlib.Core.Option.{none};
+ghost use Rattle.theory.specs.Call.{refusal};
+ghost use Rattle.claim.specs.Lent.{claimOf};
+ghost use Rattle.claim.specs.Start.{Ends};
+ghost use Rattle.claim.specs.Whole.{Called};
+use claim::Outcome;
+use claim::Tested;
 use context::Answer;
 use context::Limits;
 use context::Next;
@@ -393,5 +400,63 @@ pub fn second_premise(
     match premises::second(f, t, w, m, st, q, i, j) {
         Ready::Lacks(n) => Answer::Short(n, st),
         Ready::Go(s1, q1) => left(f, t, w, k, m, s1, q1),
+    }
+}
+
+// An Ident for each assumption in order, all pushed; then right.
+fn start(
+    f: &mut [u32],
+    t: &mut [u16],
+    w: &mut [[u16; 2]],
+    names: &[u8],
+    assumed: &[u16],
+    count: usize,
+    goal: usize,
+    steps: usize,
+) -> Answer
+    requires { ⌜ refusal (claimOf (now f) count (now assumed) (now names) goal (now t) (length (now w)) steps) ≡ none ⌝ }
+    ensures { λ r. ⌜ Ends (claimOf (now (f .entry)) count (now (assumed .entry)) (now (names .entry)) goal (now (t .entry))
+        (length (now (w .entry))) steps) (now (w .entry)) r (lent (now (f .exit)) (now (t .exit)) (now (w .exit))) ⌝ }
+{
+    let m = claim::limits(f.len(), t.len(), w.len(), steps);
+    if m.terms < assumed.len() {
+        let unused = State {
+            steps: 0,
+            indices: 0,
+            formulas: count,
+            terms: 0,
+        };
+        return Answer::Short(9, unused);
+    }
+    let first = State {
+        steps: 0,
+        indices: 0,
+        formulas: count,
+        terms: assumed.len(),
+    };
+    let q = claim::assume(t, w, assumed, goal);
+    right(f, t, w, names, m, first, q)
+}
+
+// The search of a claim: refused, proved, unprovable, or short of a limit.
+pub fn prove(
+    f: &mut [u32],
+    count: usize,
+    assumed: &[u16],
+    names: &[u8],
+    goal: usize,
+    t: &mut [u16],
+    w: &mut [[u16; 2]],
+    steps: usize,
+) -> Outcome
+    ensures { λ r. ⌜ Called (claimOf (now (f .entry)) count (now (assumed .entry)) (now (names .entry)) goal (now (t .entry))
+        (length (now (w .entry))) steps) (now (w .entry)) r (now (f .exit)) (now (t .exit)) (now (w .exit)) ⌝ }
+{
+    match claim::refusal(f, count, assumed, names, goal, t, w.len(), steps) {
+        Tested::Refused { number, place } => Outcome::Refused { number, place },
+        Tested::Passed => {
+            let answer = start(f, t, w, names, assumed, count, goal, steps);
+            claim::closing(f, t, w, count, answer)
+        }
     }
 }
