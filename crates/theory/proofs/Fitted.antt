@@ -1,4 +1,5 @@
--- What a writer hands back: a text that fits is the front of its buffer, and a name asked for alone falls under one of three cases. Assumes nothing.
+-- What a writer hands back: a text that fits is the front of its buffer, and a name asked for alone falls under one of
+-- three cases. Assumes nothing.
 use Prim.Native.Nat.{ℕ, zero, suc, _-_, _≤_, _<_}
 use mathlib.Core.Path.{_≡_, refl, ap, _∙_}
 use mathlib.Core.Bool.{Bool, true, false}
