@@ -9,6 +9,7 @@
 //! `length N`, `depth N` and the house text, which is left out where it has over 32,768 bytes. With --status the first line is
 //! `solvable`, `unsolvable` or `unknown`.
 mod counters;
+mod feed;
 mod kernel;
 mod status;
 
@@ -21,7 +22,7 @@ use kernel::proof_term::{
 use kernel::prop::{Prop, PropParameter};
 use kernel::prove::prove_with_ctx;
 use status::VerificationResultSolvableStatus;
-use std::io::{self, Read, Write};
+use std::io;
 use std::panic::{self, AssertUnwindSafe};
 use std::time::Duration;
 
@@ -282,12 +283,9 @@ fn status_of_book(book: &Book) -> (String, String) {
     (verdict.to_string(), String::new())
 }
 
-#[derive(Clone)]
 struct Options {
     bounds: Bounds,
     status: bool,
-    batch: bool,
-    path: Option<String>,
 }
 
 fn stopped(cause: Box<dyn std::any::Any + Send>) -> String {
@@ -334,32 +332,8 @@ fn answer(bytes: &[u8], options: &Options) -> String {
     )
 }
 
-fn batch(options: &Options) -> io::Result<()> {
-    let mut input = vec![];
-    io::stdin().lock().read_to_end(&mut input)?;
-    let mut output = io::stdout().lock();
-    let mut rest = Bytes(&input);
-    while let Some(length) = rest.number(4) {
-        let bytes = rest.take(length).expect("a whole book");
-        let text = answer(bytes, options);
-        output.write_all(&(text.len() as u32).to_le_bytes())?;
-        output.write_all(text.as_bytes())?;
-        output.flush()?;
-    }
-    Ok(())
-}
-
-fn single(options: &Options) -> io::Result<()> {
-    let mut input = vec![];
-    match &options.path {
-        Some(path) => input = std::fs::read(path)?,
-        None => drop(io::stdin().lock().read_to_end(&mut input)?),
-    }
-    print!("{}", answer(&input, options));
-    Ok(())
-}
-
-fn options() -> Options {
+fn main() -> io::Result<()> {
+    panic::set_hook(Box::new(|_| {}));
     let mut options = Options {
         bounds: Bounds {
             entries: 1_000_000,
@@ -367,37 +341,14 @@ fn options() -> Options {
             memory: 1 << 30,
         },
         status: false,
-        batch: false,
-        path: None,
     };
-    let mut words = std::env::args().skip(1);
-    while let Some(word) = words.next() {
-        let mut number = || {
-            let word = words.next().expect("a number");
-            word.parse::<u64>().expect("a number")
-        };
-        match word.as_str() {
-            "--status" => options.status = true,
-            "--batch" => options.batch = true,
-            "--seconds" => options.bounds.time = Duration::from_secs(number()),
-            "--megabytes" => options.bounds.memory = (number() as usize) << 20,
-            "--entries" => options.bounds.entries = number(),
-            _ => options.path = Some(word),
-        }
-    }
-    options
-}
-
-fn main() -> io::Result<()> {
-    panic::set_hook(Box::new(|_| {}));
-    let options = options();
-    let run = move || {
-        if options.batch {
-            batch(&options)
-        } else {
-            single(&options)
-        }
-    };
-    let thread = std::thread::Builder::new().stack_size(STACK);
-    thread.spawn(run)?.join().expect("no panic escapes")
+    let feed = feed::command_line(|option, number| match option {
+        "--status" => options.status = true,
+        "--seconds" => options.bounds.time = Duration::from_secs(number() as u64),
+        "--megabytes" => options.bounds.memory = number() << 20,
+        "--entries" => options.bounds.entries = number() as u64,
+        _ => panic!("no option {option}"),
+    });
+    let run = move || feed.answer(0, |_, bytes| answer(bytes, &options).into_bytes());
+    feed::on_a_stack(STACK, run)
 }

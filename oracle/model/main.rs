@@ -1,5 +1,6 @@
 //! The definitions of crates/theory/specs rendered as a program, by their names: Form, Names, NameText, Meter, Search, Refusal, Call,
-//! Layout, Text, Writer, File and Status. It stands in for the proved program in comparisons and shares no code with the Rust.
+//! Layout, Text, Writer, File and Status. It stands in for the proved program in comparisons and shares no code with the Rust
+//! (with its driver only `feed.rs`, how both are fed).
 //!
 //!     model [--status | --numbers] [--more] [--free] [--words N] [--nodes N] [--steps N] [--text N] [PATH]
 //!     model --batch [..]      many house files, each after its length in 4 bytes, little-endian; each answer in the same way
@@ -8,9 +9,11 @@
 //! --free drops every limit but that of steps. --words, --nodes, --steps and --text lend so much instead of what the program lends.
 //! --numbers prints a line of ten numbers instead: those of the call (number, place, root, steps, indices, formulas, terms), the
 //! writer's number, the length and the Adler-32 of the text; in a batch each file then comes after the words, nodes, steps and text
-//! bytes that are lent for it, 4 bytes each. --status prints the status of the goal, the assumptions left out, and with --more whether the second search ran
-//! short.
+//! bytes that are lent for it, 4 bytes each. --status prints the status of the goal, the assumptions left out, and with --more whether
+//! the second search ran short.
 mod call;
+#[path = "../feed.rs"]
+mod feed;
 mod file;
 mod form;
 mod meter;
@@ -20,20 +23,40 @@ mod status;
 mod text;
 
 use call::Lent;
-use file::{cut_bytes, cut_number, numbers_line, printed};
-use std::io::{self, Read, Write};
+use file::{numbers_line, printed};
+use std::io;
 
-#[derive(Clone)]
+#[derive(Clone, Copy)]
 pub struct Options {
     pub lent: Lent,
     pub status: bool,
     pub more: bool,
     pub numbers: bool,
-    pub batch: bool,
-    pub path: Option<String>,
 }
 
-fn options() -> Options {
+fn answer(bytes: &[u8], options: &Options) -> Vec<u8> {
+    if options.numbers {
+        numbers_line(bytes, options)
+    } else {
+        printed(bytes, options)
+    }
+}
+
+/// The options for a file of a batch, where the numbers before it say what is lent.
+fn lent_before(before: &[usize], mut options: Options) -> Options {
+    if let [words, nodes, steps, text] = *before {
+        options.lent = Lent {
+            words,
+            nodes,
+            steps,
+            text,
+            free: false,
+        };
+    }
+    options
+}
+
+fn main() -> io::Result<()> {
     let mut options = Options {
         lent: Lent {
             words: 4096,
@@ -45,87 +68,23 @@ fn options() -> Options {
         status: false,
         more: false,
         numbers: false,
-        batch: false,
-        path: None,
     };
-    let mut words = std::env::args().skip(1);
-    while let Some(word) = words.next() {
-        let mut number = || {
-            let word = words.next().expect("a number");
-            word.parse::<usize>().expect("a number")
-        };
-        match word.as_str() {
-            "--status" => options.status = true,
-            "--more" => options.more = true,
-            "--numbers" => options.numbers = true,
-            "--free" => options.lent.free = true,
-            "--batch" => options.batch = true,
-            "--words" => options.lent.words = number(),
-            "--nodes" => options.lent.nodes = number(),
-            "--steps" => options.lent.steps = number(),
-            "--text" => options.lent.text = number(),
-            _ => options.path = Some(word),
-        }
-    }
-    options
-}
-
-fn answer(bytes: &[u8], options: &Options) -> Vec<u8> {
-    if options.numbers {
-        numbers_line(bytes, options)
-    } else {
-        printed(bytes, options)
-    }
-}
-
-/// What is lent for the next file of a batch.
-fn lent(rest: &mut &[u8]) -> Lent {
-    let mut number = || cut_number(4, rest).expect("a number");
-    Lent {
-        words: number(),
-        nodes: number(),
-        steps: number(),
-        text: number(),
-        free: false,
-    }
-}
-
-fn batch(mut options: Options) -> io::Result<()> {
-    let mut input = vec![];
-    io::stdin().lock().read_to_end(&mut input)?;
-    let mut output = io::stdout().lock();
-    let mut rest = &input[..];
-    while let Some(length) = cut_number(4, &mut rest) {
-        if options.numbers {
-            options.lent = lent(&mut rest);
-        }
-        let bytes = cut_bytes(length, &mut rest).expect("a whole book");
-        let text = answer(bytes, &options);
-        output.write_all(&(text.len() as u32).to_le_bytes())?;
-        output.write_all(&text)?;
-        output.flush()?;
-    }
-    Ok(())
-}
-
-fn single(options: &Options) -> io::Result<()> {
-    let mut input = vec![];
-    match &options.path {
-        Some(path) => input = std::fs::read(path)?,
-        None => drop(io::stdin().lock().read_to_end(&mut input)?),
-    }
-    io::stdout().lock().write_all(&answer(&input, options))
-}
-
-fn main() -> io::Result<()> {
-    let options = options();
+    let feed = feed::command_line(|option, number| match option {
+        "--status" => options.status = true,
+        "--more" => options.more = true,
+        "--numbers" => options.numbers = true,
+        "--free" => options.lent.free = true,
+        "--words" => options.lent.words = number(),
+        "--nodes" => options.lent.nodes = number(),
+        "--steps" => options.lent.steps = number(),
+        "--text" => options.lent.text = number(),
+        _ => panic!("no option {option}"),
+    });
+    let numbers = if options.numbers { 4 } else { 0 };
     let run = move || {
-        if options.batch {
-            batch(options)
-        } else {
-            single(&options)
-        }
+        feed.answer(numbers, |before, bytes| {
+            answer(bytes, &lent_before(before, options))
+        })
     };
-    let thread = std::thread::Builder::new().stack_size(1 << 30);
-    thread.spawn(run)?.join().expect("no panic")
+    feed::on_a_stack(1 << 30, run)
 }
