@@ -1,0 +1,234 @@
+#!/usr/bin/env python3
+"""The tests of house.py: python3 tools/test_house.py"""
+import os
+import subprocess
+import sys
+import tempfile
+import unittest
+from importlib.machinery import SourceFileLoader
+from importlib.util import module_from_spec, spec_from_loader
+
+sys.dont_write_bytecode = True
+HERE = os.path.dirname(os.path.abspath(__file__))
+sys.path.insert(0, HERE)
+from house import Fault, listed, made, packed, unpacked, word_of
+
+EXAMPLES = os.path.join(HERE, "..", "examples")
+NAMES_OVER = "\n".join("assume x%d : p0" % i for i in range(65))
+
+
+def books():
+    """The generator of the oracle's books."""
+    loader = SourceFileLoader("books", os.path.join(HERE, "..", "oracle", "books"))
+    module = module_from_spec(spec_from_loader("books", loader))
+    loader.exec_module(module)
+    return module
+
+
+def fault_of(text):
+    """What is said of a list, as the command says it."""
+    try:
+        made(text)
+    except Fault as fault:
+        return fault.told("LIST")
+    return None
+
+
+class Made(unittest.TestCase):
+    def test_the_whole_case_has_the_written_words(self):
+        words, assumptions, goals, after = unpacked(made("goal (> (> (| p0 (> p0 F)) F) F)"))
+        self.assertEqual(words, [2, 1, word_of(5, 0, 1), word_of(4, 0, 2), word_of(5, 3, 1), word_of(5, 4, 1)])
+        self.assertEqual((assumptions, goals, after), ([], [5], b""))
+
+    def test_every_byte_of_a_small_file(self):
+        file = made("assume x : U5\nassume _1 : (& T E16383)  # a remark\n\ngoal F")
+        words = "05 00  56 00 00 00  00 00 00 00  f7 ff 03 00  13 00 08 00  01 00 00 00"
+        self.assertEqual(file.hex(), (words + "02 00  00 00 01 78  03 00 02 5f 31  01 00 04 00").replace(" ", ""))
+
+    def test_unshared_words_are_apart(self):
+        self.assertEqual(unpacked(made("goal (& p0 p0)"))[0], [2, word_of(3, 0, 0)])
+        apart = [2, 2, word_of(3, 0, 1)]
+        self.assertEqual(unpacked(made("unshared\ngoal (& p0 p0)"))[0], apart)
+        self.assertEqual(unpacked(made("goal (& p0 p0)", unshared=True))[0], apart)
+
+    def test_let_is_an_abbreviation(self):
+        self.assertEqual(made("let q = (> p0 F)\nassume x : q\ngoal (& q q)"), made("assume x : (> p0 F)\ngoal (& (> p0 F) (> p0 F))"))
+
+    def test_let_shares_what_would_not_fit(self):
+        rows = ["let d0 = T"] + ["let d%d = (& d%d d%d)" % (i + 1, i, i) for i in range(200)]
+        self.assertEqual(len(unpacked(made("\n".join([*rows, "goal d200"])))[0]), 201)
+        self.assertEqual(fault_of("\n".join(["unshared", *rows, "goal d200"])), "LIST: too many formulas: a word can name no part past word 16383")
+
+    def test_word_lines_are_exact(self):
+        file = made("word 0 = p0\nword 1 = p0\nword 2..3 = (> @1 @0)\nassume x : (> p0 @1)\ngoal @3")
+        arrow, own = word_of(5, 1, 0), word_of(5, 0, 1)
+        self.assertEqual(unpacked(file), ([2, 2, arrow, arrow, own], [(4, b"x")], [3], b""))
+
+    def test_raw_words(self):
+        self.assertEqual(unpacked(made("word 0 = 0x22\ngoal @0"))[0], [34])
+        self.assertEqual(unpacked(made("unchecked\nword 0 = 8\nword 1 = (> @1 @9)\ngoal @7")), ([8, word_of(5, 1, 9)], [], [7], b""))
+
+    def test_unchecked_writes_what_the_program_refuses(self):
+        name = "n" * 33
+        self.assertEqual(unpacked(made("unchecked\nassume %s : T\ngoal T" % name))[1], [(0, name.encode())])
+        self.assertEqual(unpacked(made("assume x : T\nassume x : T\ngoal T", unchecked=True))[1], [(0, b"x")] * 2)
+        self.assertEqual(unpacked(made('unchecked\nassume "a \\x00\\"\\\\" : T\ngoal T'))[1], [(0, b'a \0"\\')])
+        self.assertEqual(unpacked(made("unchecked\n" + NAMES_OVER + "\ngoal T"))[1][64], (0, b"x64"))
+        self.assertEqual(unpacked(made("unchecked\nword 0..4096 = p0\ngoal @0"))[0], [2] * 4097)
+        self.assertEqual(unpacked(made("unchecked\ngoal T\ngoal F\nafter 00 ff"))[2:], ([0, 1], b"\0\xff"))
+        self.assertEqual(made("unchecked\ncut 3\ngoal T"), made("goal T")[:-3])
+
+    def test_depth_is_no_hindrance(self):
+        deep = "goal " + "(> T " * 2000 + "p0" + ")" * 2000
+        self.assertEqual(listed(made(deep)), deep + "\n")
+
+
+class Faults(unittest.TestCase):
+    def said(self, text, place, part):
+        told = fault_of(text)
+        self.assertIsNotNone(told, text)
+        self.assertTrue(told.startswith("LIST" + place + ": "), told)
+        self.assertIn(part, told)
+
+    def test_formulas(self):
+        self.said("goal", ", line 1, column 5", "here comes a formula")
+        self.said("\ngoal q", ", line 2, column 6", "'q' is no formula")
+        self.said("goal p16384", ", line 1, column 6", "over 16383")
+        self.said("goal p01", ", line 1, column 6", "'p01' is no formula")
+        self.said("goal (p0 p1)", ", line 1, column 7", "after ( comes &, | or >, not 'p0'")
+        self.said("goal (& p0", ", line 1, column 11", "the ) of the bracket of column 6")
+        self.said("goal (& p0)", ", line 1, column 11", "the bracket of column 6 has 1")
+        self.said("goal (& p0 p1 T)", ", line 1, column 16", "the bracket of column 6 has 3")
+        self.said("goal p0)", ", line 1, column 8", "the line should end before ')'")
+        self.said("goal )", ", line 1, column 6", "closes no bracket")
+        self.said("goal @0", ", line 1, column 6", "no word line gives @0")
+
+    def test_lines(self):
+        self.said("gaol p0", ", line 1, column 1", "'gaol' is none of assume, goal")
+        self.said("assume x p0", ", line 1, column 10", "here comes :")
+        self.said("assume : p0", ", line 1, column 8", "here comes a name, not ':'")
+        self.said('assume "x : p0', ", line 1, column 8", "a name in quotes")
+        self.said("let p0 = T", ", line 1, column 5", "'p0' is no name")
+        self.said("let a = T\nlet a = F", ", line 2, column 5", "already")
+        self.said("goal T\nword 0 = T", ", line 2, column 1", "come before")
+        self.said("word 1 = T", ", line 1, column 6", "the next word, 0")
+        self.said("word 0 = (> T F)", ", line 1, column 10", "a sign over two words")
+        self.said("word 0 = 0x100000000", ", line 1, column 10", "over 4294967295")
+        self.said("after 0", ", line 1, column 7", "two hexadecimal digits")
+        self.said("goal T\nafter 00", "", "unchecked")
+
+    def test_what_a_file_cannot_hold(self):
+        self.said("unchecked\nassume %s : T" % ("n" * 256), ", line 2, column 8", "256 bytes, 255 are the most")
+        self.said("unchecked\nword 0..65535 = T\ngoal T", ", line 2, column 6", "over 65534")
+
+    def test_what_the_program_refuses(self):
+        self.said("assume x : T\nassume %s : T\ngoal T" % ("n" * 33), ", line 2", "1 to 32 bytes, not 33")
+        self.said('assume "" : T\ngoal T', ", line 1", "1 to 32 bytes, not 0")
+        self.said("assume x : T\nassume x : F\ngoal T", ", line 2", "the name x stands on an earlier line")
+        self.said("assume x-y : T\ngoal T", ", line 1", "A-Z, a-z, 0-9 and _")
+        self.said(NAMES_OVER + "\ngoal T", "", "at most 64 assumptions, not 65")
+        self.said("word 0..4095 = p0\ngoal T", "", "at most 4096 formulas, not 4097")
+        self.said("assume x : T", "", "one goal, not 0")
+        self.said("goal T\ngoal F", "", "one goal, not 2")
+        self.said("word 0 = T\nword 1 = 8\ngoal @0", ", line 2", "kind 8")
+        self.said("word 0 = 16\ngoal @0", ", line 1", "T has zero fields, not 1 and 0")
+        self.said("word 0 = 0x40002\ngoal @0", ", line 1", "0 at right, not 1")
+        self.said("word 0 = 3\ngoal @0", ", line 1", "words below it, not @0 and @0")
+
+
+class RoundTrips(unittest.TestCase):
+    def same(self, file):
+        self.assertEqual(made(listed(file)).hex(), file.hex())
+
+    def test_the_plainest_list_is_taken(self):
+        for text in ["goal (& p0 p0)\n", "unshared\ngoal (& p0 p0)\n", "assume x : T\ngoal (> (| p0 p1) U3)\n"]:
+            self.assertEqual(listed(made(text)), text)
+        words = "word 0..2 = p0\nword 3 = (> @2 @1)    # (> p0 p0)\nassume x : @3\ngoal @0\n"
+        self.assertEqual(listed(made(words)), words)
+        broken = 'unchecked\nword 0 = 0x00000008    # kind 8, left 0, right 0\nassume "a b" : @3\ngoal @0\nafter 00 01\n'
+        self.assertEqual(listed(made(broken)), broken)
+
+    def test_the_books_of_the_oracle(self):
+        makers, count = books(), 0
+        for name in ["random", "names", "chains", "limits"]:
+            for i, file in enumerate(makers.books(name, 7, 400)):
+                if name != "limits" or i % 4 == 0:
+                    self.same(file)
+                    count += 1
+        self.assertGreater(count, 400)
+
+    def test_damaged_files_are_kept_or_said_to_be_cut(self):
+        kept = cut = 0
+        for file in list(books().books("damaged", 7, 400))[::9]:
+            try:
+                self.same(file)
+                kept += 1
+            except Fault as fault:
+                self.assertIn("the file ends within", str(fault))
+                cut += 1
+        self.assertGreater(min(kept, cut), 300)
+
+    def test_cut_at_every_byte(self):
+        file = packed([2, 1], [(0, b"ab")], 1)
+        for at in range(len(file)):
+            with self.assertRaises(Fault) as caught:
+                listed(file[:at])
+            self.assertIn("byte %d: the file ends within" % at, str(caught.exception))
+        self.same(file)
+
+
+class Command(unittest.TestCase):
+    def ran(self, *words, given=b""):
+        run = subprocess.run([sys.executable, os.path.join(HERE, "house.py"), *words], input=given, capture_output=True)
+        return run.returncode, run.stdout, run.stderr.decode()
+
+    def test_streams(self):
+        self.assertEqual(self.ran("make", "-", given=b"goal F"), (0, made("goal F"), ""))
+        self.assertEqual(self.ran("read", "-", given=made("goal F")), (0, b"goal F\n", ""))
+        self.assertEqual(self.ran("make", "-", "--unshared", given=b"goal (& T T)"), (0, made("unshared\ngoal (& T T)"), ""))
+        self.assertEqual(self.ran("make", "-", "--unchecked", given=b"goal T\nafter 00"), (0, made("goal T") + b"\0", ""))
+
+    def test_files(self):
+        with tempfile.TemporaryDirectory() as folder:
+            path = os.path.join(folder, "book.txt")
+            with open(path, "w") as out:
+                out.write("goal T\n")
+            self.assertEqual(self.ran("make", path), (0, b"", ""))
+            self.assertEqual(self.ran("read", os.path.join(folder, "book.house")), (0, b"goal T\n", ""))
+
+    def test_errors(self):
+        self.assertEqual(self.ran("make", "-", given=b"goal T\ngoal q\n")[:2], (1, b""))
+        self.assertEqual(self.ran("make", "-", given=b"goal T\n\xff\n"), (1, b"", "-, line 2: not a text\n"))
+        self.assertEqual(self.ran("read", "-", given=b"\1"), (1, b"", "-: byte 1: the file ends within the count of formulas\n"))
+        self.assertEqual(self.ran("read", "no such file"), (1, b"", "no such file: No such file or directory\n"))
+        self.assertEqual(self.ran("write", "-")[0], 2)
+
+
+class Examples(unittest.TestCase):
+    def test_each_is_made_from_its_list_and_back(self):
+        lists = [name for name in sorted(os.listdir(EXAMPLES)) if name.endswith(".txt")]
+        self.assertGreater(len(lists), 20)
+        for name in lists:
+            with self.subTest(name):
+                with open(os.path.join(EXAMPLES, name)) as source, open(os.path.join(EXAMPLES, name[:-4] + ".house"), "rb") as kept:
+                    file = kept.read()
+                    self.assertEqual(made(source.read()), file)
+                try:
+                    self.assertEqual(made(listed(file)), file)
+                except Fault as fault:
+                    self.assertIn("the file ends within", str(fault))
+
+    def test_the_page_shows_each_with_its_output(self):
+        with open(os.path.join(EXAMPLES, "README.md")) as source:
+            page = source.read()
+        outputs = [name for name in sorted(os.listdir(EXAMPLES)) if name.endswith(".out")]
+        self.assertGreater(len(outputs), 20)
+        for name in outputs:
+            with open(os.path.join(EXAMPLES, name)) as kept:
+                _, found, shown = page.partition("`%s`" % name[:-4])
+                self.assertTrue(found, name)
+                self.assertIn(kept.read().rstrip("\n"), shown.partition("\n#")[0].partition("\n| `")[0], name)
+
+
+if __name__ == "__main__":
+    unittest.main()
