@@ -33,7 +33,8 @@ fn lay_byte(buf: &mut [u8], at: usize, b: u8) -> usize
     buf.len() + 1
 }
 
-fn lay(buf: &mut [u8], at: usize, text: &[u8]) -> usize
+// The bytes of a text. For the program's lines too.
+pub fn lay(buf: &mut [u8], at: usize, text: &[u8]) -> usize
     ensures { λ r. ⌜ Laid (some (now (text .entry))) (now (buf .entry)) at (now (buf .exit)) r ⌝ }
 {
     let mut next = at;
@@ -321,8 +322,8 @@ fn place_of(tested: Tested) -> usize
     }
 }
 
-// Zeros from `from` on.
-fn clear_from(buf: &mut [u8], from: usize)
+// Zeros from `from` on. Behind the program's lines too.
+pub fn clear_from(buf: &mut [u8], from: usize)
     requires { ⌜ from ≤ length (now buf) ⌝ }
     ensures { λ _. ⌜ now (buf .exit) ≡ take from (now (buf .entry)) ++ replicate (length (now (buf .entry)) - from) 0 ⌝ }
 {
