@@ -1,5 +1,5 @@
 -- The walk by falling position, as the code's loop meets it: what it starts from, and one record on. Assumes nothing.
-use Prim.Native.Nat.{ℕ, suc, _+_, _-_, _*_, _≤_, _<_}
+use Prim.Native.Nat.{ℕ, _+_, _-_, _*_, _≤_, _<_}
 use mathlib.Core.Path.{_≡_, refl, sym, ap, _∙_, subst}
 use mathlib.Core.List.{List, []}
 use native.Mathlib.Omega.{arith}
@@ -12,7 +12,7 @@ use Rattle.context.specs.declared.Sequent.{Sequent}
 use Rattle.context.specs.declared.Limits.{Limits}
 use Rattle.context.specs.Moves.{stretch, pushed, without}
 use Rattle.context.specs.Area.{Rec, rec, formulaAt, termAt, removed, pushPlace}
-use Rattle.representation.specs.Tables.{upto, downto}
+use Rattle.representation.specs.Tables.{downto}
 use Rattle.representation.specs.Reading.{lent, rightAt, book, unorderedIn, orderedIn}
 use Rattle.representation.specs.Keeping.{Laid, Seats, Rep}
 use Rattle.representation.specs.Making.{Tested}
@@ -74,7 +74,8 @@ module _ {m : Limits} {f : List ℕ} {nf base : ℕ} {w0 : List Rec} {q : Sequen
         (p .level < 256) × (p .unordered + p .ordered ≤ stretch) × (k ≤ p .unordered) × ((p .level + 1) * stretch ≤ length w)
     walk-fits {k} {n} {t} {w} {p} x =
         let z = x .so .seats in
-        let many : p .unordered ≡ length (x .front) + length (fire (book f nf) (unorderedIn w0 (q .level) (q .unordered)) n (x .back) .kept) =
+        let many : p .unordered ≡ length (x .front) + length
+        (fire (book f nf) (unorderedIn w0 (q .level) (q .unordered)) n (x .back) .kept) =
         sym (unordered-length w (p .level) (p .unordered)) ∙ ap length (z .unordered-is)
         ∙ length-append (x .front) (fire (book f nf) (unorderedIn w0 (q .level) (q .unordered)) n (x .back) .kept) in
         let a = st .levels in
@@ -117,7 +118,8 @@ count-few {f = f} {w = w} {q = q} rep e =
     (omega arith, omega arith)
 
 -- the charge that passed leaves room for all
-pub may-fire : {m : Limits} {f t : List ℕ} {w : List Rec} {s : State} {q : Sequent} {c n k l u v : ℕ} → Rep m (lent f t w) s q → q .ordered ≡ 0 →
+pub may-fire : {m : Limits} {f t : List ℕ} {w : List Rec} {s : State} {q : Sequent} {c n k l u v : ℕ} → Rep m (lent f t w) s q →
+    q .ordered ≡ 0 →
     c ≡ firingIn f w (q .level) (q .unordered) (q .unordered) → Tested m n u v (s .terms + c) k l → n ≡ 0 →
     MayFire m (lent f t w) s q (s .terms + c)
 may-fire {s = s} rep none e t z = record {

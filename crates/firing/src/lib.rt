@@ -84,8 +84,10 @@ pub fn fire_one(
     requires { ⌜ (q .level < 256) × (i < q .unordered) × (j < q .unordered) × (q .unordered + q .ordered ≤ stretch) ⌝ }
     requires { ⌜ (q .level + 1) * stretch ≤ length (now w) ⌝ }
     ensures { λ r. ⌜ r ≡ pushed (without q) ⌝ }
-    ensures { λ _. ⌜ now (t .exit) ≡ putNode (now (t .entry)) n (sixOf (app (termAt (now (w .entry)) (q .level * stretch + i)) (termAt (now (w .entry)) (q .level * stretch + j)))) ⌝ }
-    ensures { λ _. ⌜ now (w .exit) ≡ set (removed (now (w .entry)) q i) (pushPlace (without q)) (rec (rightAt (now (f .entry)) (formulaAt (now (w .entry)) (q .level * stretch + i))) n) ⌝ }
+    ensures { λ _. ⌜ now (t .exit) ≡ putNode (now (t .entry)) n
+        (sixOf (app (termAt (now (w .entry)) (q .level * stretch + i)) (termAt (now (w .entry)) (q .level * stretch + j)))) ⌝ }
+    ensures { λ _. ⌜ now (w .exit) ≡ set (removed (now (w .entry)) q i) (pushPlace (without q))
+        (rec (rightAt (now (f .entry)) (formulaAt (now (w .entry)) (q .level * stretch + i))) n) ⌝ }
 {
     let first = q.level * context::STRETCH;
     let b = formula::right(f, context::formula_at(w, first + i));
@@ -107,7 +109,8 @@ pub fn fire_all(
     end: usize,
 ) -> Sequent
     requires { ⌜ MayFire m (lent (now f) (now t) (now w)) st q end ⌝ }
-    ensures { λ r. ⌜ Fell m (now (f .entry)) (st .formulas) (st .terms) (now (t .entry)) (now (w .entry)) q (now (t .exit)) (now (w .exit)) r ⌝ }
+    ensures { λ r. ⌜ Fell m (now (f .entry)) (st .formulas) (st .terms) (now (t .entry)) (now (w .entry)) q (now (t .exit))
+        (now (w .exit)) r ⌝ }
 {
     let mut p = q;
     let mut n = end;

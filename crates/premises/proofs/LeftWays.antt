@@ -25,10 +25,11 @@ use Rattle.representation.specs.Making.{Back}
 use Rattle.representation.specs.Parts.{orSecond}
 use Rattle.representation.specs.Closing.{Closes}
 use Rattle.representation.specs.Turning.{Splits, tries, Turned, turned-on, turned-end, turned-split, turned-try}
+use Rattle.representation.specs.Records.{topFormula, topTerm, others}
 use Rattle.representation.proofs.Charge.{passes}
 use Rattle.representation.proofs.Combine.{Lost}
 use Rattle.representation.proofs.Branch.{back-found}
-use Rattle.representation.proofs.Left.{topFormula, topTerm, others, top-inside}
+use Rattle.representation.proofs.Left.{top-inside}
 use Rattle.representation.proofs.LeftOr as Or
 use Rattle.representation.proofs.LeftOr.{left-or-short, left-or-lost, left-or-then, or-second-short, or-second-lost, or-second-found}
 use Rattle.representation.proofs.FallsNew.{half-falls, halves-lighter}

@@ -22,8 +22,9 @@ use Rattle.representation.proofs.Areas.{fields}
 use Rattle.representation.proofs.Charge.{passes}
 use Rattle.representation.proofs.RightImpl.{impl-made}
 use Rattle.representation.proofs.LeftOr.{half-made}
-use Rattle.representation.proofs.Four.{placeOf, formulaOf, termOf, premiseOf, middleOf, endOf, nested-in, first-made, second-made}
-use Rattle.rules.specs.Pieces.{composed}
+use Rattle.representation.proofs.Four.{nested-in, first-made, second-made}
+use Rattle.representation.specs.Pieces.{composed}
+use Rattle.representation.specs.Records.{placeOf, formulaOf, termOf, premiseOf, middleOf, endOf}
 use Rattle.premises.specs.declared.Ready.the-variants.{Go}
 use Rattle.premises.specs.Prepared.{ready, Body, Half, First, Second, Nested}
 

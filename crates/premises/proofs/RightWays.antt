@@ -3,7 +3,7 @@ use Prim.Native.Nat.{ℕ, _<_}
 use mathlib.Core.Path.{_≡_, subst}
 use mathlib.Core.List.{List}
 use native.Mathlib.Omega.{arith}
-use Rattle.theory.specs.Term.{by, pair, fn}
+use Rattle.theory.specs.Term.{pair, fn}
 use Rattle.theory.specs.Names.{fresh}
 use Rattle.theory.specs.Meter as M
 use Rattle.theory.specs.Search.{name}

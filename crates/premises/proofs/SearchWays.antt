@@ -22,9 +22,10 @@ use Rattle.representation.specs.Making.{Back}
 use Rattle.representation.specs.Parts.{Ranges, Seconds}
 use Rattle.representation.specs.Closing.{Closes}
 use Rattle.representation.specs.Turning.{tries}
+use Rattle.representation.specs.Records.{placeOf, formulaOf, premiseOf, endOf}
 use Rattle.representation.proofs.Halves.{tries-short, tries-first-short, tries-first-found, tries-first-failed}
 use Rattle.representation.proofs.Halves.{second-half-short, second-half-stops, second-half-found, second-half-failed}
-use Rattle.representation.proofs.Four.{placeOf, formulaOf, premiseOf, endOf, record-in, impl-in}
+use Rattle.representation.proofs.Four.{record-in, impl-in}
 use Rattle.representation.proofs.FallsFour.{first-falls, second-falls}
 use Rattle.premises.specs.declared.Ready.the-variants.{Go}
 use Rattle.premises.specs.Prepared as Prepared

@@ -15,9 +15,10 @@ use Rattle.representation.specs.Reading.{Lent}
 use Rattle.representation.specs.Keeping.{Rep}
 use Rattle.representation.specs.Making.{Back}
 use Rattle.representation.specs.Trying.{Finishes, TriesAt}
+use Rattle.representation.specs.Records.{endOf}
 use Rattle.representation.proofs.Same.{laid-same}
 use Rattle.representation.proofs.Branch.{back-found, back-at}
-use Rattle.representation.proofs.Four.{endOf, impl-in}
+use Rattle.representation.proofs.Four.{impl-in}
 use Rattle.representation.proofs.FourWays.{second-short, second-stops, second-found, second-failed}
 use Rattle.representation.proofs.FourWays.{try-lacks, try-stops, try-fails, try-then}
 use Rattle.premises.specs.Prepared.{Nested}

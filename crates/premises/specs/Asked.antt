@@ -3,7 +3,7 @@ use Prim.Native.Nat.{ℕ, _+_, _<_}
 use mathlib.Core.Path.{_≡_}
 use mathlib.Core.List.{List, [], _∷_}
 use Rattle.theory.specs.Form.{Book, form, isImp}
-use Rattle.theory.specs.Term.{Node, by, ident, app, leftOr, search4}
+use Rattle.theory.specs.Term.{Node, by, ident, fn, app, leftOr, search4}
 use Rattle.theory.specs.Names.{fresh}
 use Rattle.theory.specs.Weight.{weight}
 use Rattle.theory.specs.Premise.{asked, sizeOf}
@@ -20,8 +20,8 @@ use Rattle.representation.specs.Reading.{Lent, book, seqOf}
 use Rattle.representation.specs.Meaning.{Meets}
 use Rattle.representation.specs.Making.{Tested, Made}
 use Rattle.representation.specs.Trying.{secondNext}
-use Rattle.representation.proofs.Left.{topFormula}
-use Rattle.representation.proofs.Four.{weakened, termOf, middleOf, endOf}
+use Rattle.representation.specs.Records.{topFormula, termOf, middleOf, endOf}
+use Rattle.representation.specs.Pieces.{composed}
 use Rattle.premises.specs.Prepared.{halfNext, firstNext}
 
 pub data Asked (j : M.Judgement) (m : Limits) (taken : List (List ℕ)) (x : Lent) (s : State) (q : Sequent) (u nf nt c : ℕ) (ws : Book)
@@ -58,7 +58,8 @@ Branched m taken x s q b a =
 abbrev pub FirstAsked : Limits → List (List ℕ) → Lent → State → Sequent → ℕ → ℕ → ℕ → Answer → Lent → Type 0
 FirstAsked m taken x s q i a b =
     Asked M.byRight m taken x s q (b + 1) (s .formulas + 1) (s .terms + 5) (q .unordered + q .ordered)
-    (isImp (middleOf x q i) (endOf x q i) ∷ []) (by search4 (weakened a b (termOf x q i) (s .terms) (s .formulas))) (firstNext x s q i)
+    (isImp (middleOf x q i) (endOf x q i) ∷ []) (by search4
+    (composed (s .terms) a (fn (name b) (s .terms)) (termOf x q i) (s .formulas))) (firstNext x s q i)
 
 pub record FirstOf (m : Limits) (taken : List (List ℕ)) (x : Lent) (s : State) (q : Sequent) (i : ℕ) (r : Answer) (y : Lent) : Type 0 where
   pub one : ℕ

@@ -3,7 +3,7 @@ use Prim.Native.Nat.{ℕ, suc, _+_, _<_}
 use mathlib.Core.Path.{_≡_}
 use mathlib.Core.List.{List, [], _∷_, _++_}
 use Rattle.theory.specs.Form.{Book, isImp}
-use Rattle.theory.specs.Term.{Node, by, ident, app, rightImpl, leftOr, search4}
+use Rattle.theory.specs.Term.{Node, by, ident, fn, app, rightImpl, leftOr, search4}
 use Rattle.theory.specs.Meter as M
 use Rattle.theory.specs.Search.{name, pushUp, entry}
 use Rattle.context.specs.declared.State.{State}
@@ -14,8 +14,8 @@ use Rattle.representation.specs.Reading.{Lent, kindAt, leftAt, rightAt, seqOf}
 use Rattle.representation.specs.Making.{Tested, Made}
 use Rattle.representation.specs.Parts.{orNext}
 use Rattle.representation.specs.Trying.{recordsBefore, recordsFrom, secondNext}
-use Rattle.representation.proofs.Left.{others}
-use Rattle.representation.proofs.Four.{weakened, formulaOf, termOf, premiseOf, middleOf, endOf}
+use Rattle.representation.specs.Records.{others, formulaOf, termOf, premiseOf, middleOf, endOf}
+use Rattle.representation.specs.Pieces.{composed}
 use Rattle.premises.specs.declared.Ready.{Ready}
 use Rattle.premises.specs.declared.Ready.the-variants.{Go, Lacks}
 
@@ -64,7 +64,7 @@ firstNext x s q i = record {
 abbrev pub First : Limits → Lent → State → Sequent → ℕ → ℕ → ℕ → Ready → Lent → Type 0
 First m x s q i a b =
     Prepared m x s q (b + 1) (s .formulas + 1) (s .terms + 5) (q .unordered + q .ordered) (isImp (middleOf x q i) (endOf x q i) ∷ [])
-    (by search4 (weakened a b (termOf x q i) (s .terms) (s .formulas))) (firstNext x s q i)
+    (by search4 (composed (s .terms) a (fn (name b) (s .terms)) (termOf x q i) (s .formulas))) (firstNext x s q i)
 
 -- rule 4: the second premise, when the first is found at node j
 abbrev pub Second : Limits → Lent → State → Sequent → ℕ → ℕ → Ready → Lent → Type 0

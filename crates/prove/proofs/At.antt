@@ -15,7 +15,8 @@ use Rattle.representation.specs.Reading.{Lent, kindAt, Shows}
 use Rattle.representation.specs.Keeping.{Rep}
 use Rattle.representation.specs.Meaning.{Meets}
 use Rattle.representation.specs.Trying.{Next, trying, TriesAt}
-use Rattle.representation.proofs.Four.{formulaOf, premiseOf, skips-other, skips-flat}
+use Rattle.representation.specs.Records.{formulaOf, premiseOf}
+use Rattle.representation.proofs.Four.{skips-other, skips-flat}
 use Rattle.rules.specs.Last.{nested}
 use Rattle.premises.specs.Prepared.{Nested}
 use Rattle.premises.specs.Asked.{FirstOf}

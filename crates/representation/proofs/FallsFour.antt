@@ -21,9 +21,10 @@ use Rattle.representation.specs.Keeping.{Rep}
 use Rattle.representation.specs.Meaning.{weigh}
 use Rattle.representation.specs.Making.{Made}
 use Rattle.representation.specs.Trying.{recordAt, recordsBefore, recordsFrom, secondNext}
+use Rattle.representation.specs.Records.{formulaOf, premiseOf, middleOf, endOf}
 use Rattle.representation.proofs.Charge.{book-length}
 use Rattle.representation.proofs.Look.{shape-as}
-use Rattle.representation.proofs.Four.{formulaOf, premiseOf, middleOf, endOf, parted, record-in, nothing-left, impl-in, nested-in}
+use Rattle.representation.proofs.Four.{parted, record-in, nothing-left, impl-in, nested-in}
 use Rattle.representation.proofs.Four.{firstNext, firstWords}
 use Rattle.representation.proofs.Falls.{ReadsAs, bookOf, book-good, at-index, form-by, reads-before, reads-from, falls-made}
 

@@ -20,10 +20,11 @@ use Rattle.representation.specs.Reading.{Lent, kindAt, leftAt, rightAt, 
 use Rattle.representation.specs.Keeping.{Rep}
 use Rattle.representation.specs.Meaning.{weigh}
 use Rattle.representation.specs.Making.{Made, Moved}
+use Rattle.representation.specs.Records.{topFormula, topEntry, others, fromOf, toOf}
 use Rattle.representation.proofs.Seat.{ordered-pop}
 use Rattle.representation.proofs.Look.{shape-as}
-use Rattle.representation.proofs.Left.{topFormula, topEntry, others, top-inside, and-parts, andNext}
-use Rattle.representation.proofs.LeftImpl.{fromOf, toOf, nextBy, ends-in, trueNext}
+use Rattle.representation.proofs.Left.{top-inside, and-parts, andNext}
+use Rattle.representation.proofs.LeftImpl.{nextBy, ends-in, trueNext}
 use Rattle.representation.proofs.Falls.{ReadsAs, bookOf, at-index, form-by, reads-unordered, reads-ordered, falls-made}
 use Rattle.representation.proofs.Falls.{falls-moved}
 

@@ -21,10 +21,11 @@ use Rattle.representation.specs.Keeping.{Rep}
 use Rattle.representation.specs.Meaning.{weigh}
 use Rattle.representation.specs.Making.{Made}
 use Rattle.representation.specs.Parts.{orNext}
+use Rattle.representation.specs.Records.{topFormula, fromOf, toOf, firstOf, secondOf}
 use Rattle.representation.proofs.Charge.{book-length}
-use Rattle.representation.proofs.Left.{topFormula, top-inside}
-use Rattle.representation.proofs.LeftImpl.{fromOf, toOf, ends-in}
-use Rattle.representation.proofs.LeftNew.{firstOf, secondOf, curryWords, curryNext, curry-parts, sidesWords, sidesNext, sides-parts}
+use Rattle.representation.proofs.Left.{top-inside}
+use Rattle.representation.proofs.LeftImpl.{ends-in}
+use Rattle.representation.proofs.LeftNew.{curryWords, curryNext, curry-parts, sidesWords, sidesNext, sides-parts}
 use Rattle.representation.proofs.LeftOr.{halfNext}
 use Rattle.representation.proofs.Falls.{bookOf, book-good, at-index, reads-unordered, falls-made}
 use Rattle.representation.proofs.FallsLeft.{U, A, O, G, reads-others, before, grown, parts, impl-form, swap-falls, swap-two-falls}

@@ -18,7 +18,7 @@ use Rattle.context.specs.declared.State.{State}
 use Rattle.context.specs.declared.Sequent.{Sequent}
 use Rattle.context.specs.declared.Limits.{Limits}
 use Rattle.context.specs.Moves.{stretch, spent, upped, pushed, without, limitsOf}
-use Rattle.context.specs.Area.{Rec, rec, formulaAt, termAt, raised, removed, pushPlace}
+use Rattle.context.specs.Area.{Rec, rec, raised, removed, pushPlace}
 use Rattle.representation.specs.Tables.{upto, downto, from}
 use Rattle.representation.specs.Reading.{Lent, lent, kindAt, leftAt, rightAt, shapeAt, entryAt, unorderedIn, orderedIn, seqOf, Shows}
 use Rattle.representation.specs.Reading.{putNodes}
@@ -26,6 +26,8 @@ use Rattle.representation.specs.Keeping.{Inside, Rep}
 use Rattle.representation.specs.Meaning.{asks}
 use Rattle.representation.specs.Making.{Tested, Made}
 use Rattle.representation.specs.Trying.{Next, recordAt, recordsBefore, recordsFrom, trying, secondNext, secondTry}
+use Rattle.representation.specs.Records.{placeOf, formulaOf, termOf, premiseOf, middleOf, endOf}
+use Rattle.representation.specs.Pieces.{composed}
 use Rattle.representation.proofs.Tables.{upto-split, from-length}
 use Rattle.representation.proofs.Seat.{unordered-length}
 use Rattle.representation.proofs.Areas.{fields, Area, area-start, area-up, area-out, area-push}
@@ -33,29 +35,6 @@ use Rattle.representation.proofs.Write.{words-none, words-imp}
 use Rattle.representation.proofs.Charge.{words-many, passes}
 use Rattle.representation.proofs.Making.{made-of}
 use Rattle.representation.proofs.Look.{shape-as, look-at, children, fits16}
-
--- (as (fn a (app t (fn b a))) ..): n is the first node, f the ascribed formula
-abbrev pub weakened : ℕ → ℕ → ℕ → ℕ → ℕ → List Piece
-weakened a b t n f = ident (name a) ∷ fn (name b) n ∷ app t (1 + n) ∷ fn (name a) (2 + n) ∷ asc (3 + n) f ∷ []
-
--- the record's place, its formula (A→B)→C and its term; the indices of A→B, B and C
-abbrev pub placeOf : Sequent → ℕ → ℕ
-placeOf q i = q .level * stretch + i
-
-abbrev pub formulaOf : Lent → Sequent → ℕ → ℕ
-formulaOf x q i = formulaAt (x .records) (placeOf q i)
-
-abbrev pub termOf : Lent → Sequent → ℕ → ℕ
-termOf x q i = termAt (x .records) (placeOf q i)
-
-abbrev pub premiseOf : Lent → Sequent → ℕ → ℕ
-premiseOf x q i = leftAt (x .words) (formulaOf x q i)
-
-abbrev pub middleOf : Lent → Sequent → ℕ → ℕ
-middleOf x q i = rightAt (x .words) (premiseOf x q i)
-
-abbrev pub endOf : Lent → Sequent → ℕ → ℕ
-endOf x q i = rightAt (x .words) (formulaOf x q i)
 
 -- the context parts at each position
 pub parted : (x : Lent) (q : Sequent) (i : ℕ) → i < q .unordered →
@@ -212,7 +191,7 @@ module _ {m : Limits} (taken : List (List ℕ)) {x : Lent} {s : State} {q : Sequ
         firstWords = isImp (middleOf x q i) (endOf x q i) ∷ []
 
         abbrev pub firstPieces : List Piece
-        firstPieces = weakened a b (termOf x q i) (s .terms) (s .formulas)
+        firstPieces = composed (s .terms) a (fn (name b) (s .terms)) (termOf x q i) (s .formulas)
 
         pub trying-by : (next : Next) (seen : Seen) (S : M.State) → Shows x s S → (d : ℕ) → trying m taken x q i next seen d S ≡
             charge (limitsOf m) (b + 1) firstWords (by search4 firstPieces) firstNext S

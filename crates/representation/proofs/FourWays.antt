@@ -22,12 +22,12 @@ use Rattle.representation.specs.Meaning.{says-found, asks, Meets}
 use Rattle.representation.specs.Making.{Tested, Made, Back}
 use Rattle.representation.specs.Trying.{Next, recordAt, recordsBefore, recordsFrom, trying, secondNext, secondTry, HandsOn, TriesAt}
 use Rattle.representation.specs.Trying.{Past, Finishes}
+use Rattle.representation.specs.Records.{formulaOf, termOf, premiseOf, endOf}
 use Rattle.representation.proofs.Tables.{upto-ext, from-ext}
 use Rattle.representation.proofs.Same.{frame-less, frame-trans, laid-same}
 use Rattle.representation.proofs.Combine.{comes-as, comes-now, try-short, try-found, FailsAs, fails-as, FindsAs, finds-as}
 use Rattle.representation.proofs.Branch.{gives-as, gives-short, back-at, after-made, made-kept, back-failed, back-found}
 use Rattle.representation.proofs.Branch.{paid, asks-made, gives-try-short, gives-try-found}
-use Rattle.representation.proofs.Four.{termOf, premiseOf, endOf, formulaOf}
 use Rattle.representation.proofs.Four.{second-count, trying-by, firstNext, firstWords, firstPieces}
 use Rattle.representation.proofs.Four.{first-count}
 

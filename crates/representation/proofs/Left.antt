@@ -16,13 +16,14 @@ use Rattle.context.specs.declared.Limits.{Limits}
 use Rattle.context.specs.declared.Answer.{Answer}
 use Rattle.context.specs.declared.Answer.the-variants.{Short}
 use Rattle.context.specs.Moves.{stretch, spent, pushed, popped, appended, limitsOf}
-use Rattle.context.specs.Area.{Rec, rec, formulaAt, termAt, pushPlace, appendPlace, topPlace}
+use Rattle.context.specs.Area.{Rec, rec, pushPlace, appendPlace, topPlace}
 use Rattle.representation.specs.Tables.{downto}
 use Rattle.representation.specs.Reading.{Lent, lent, kindAt, leftAt, rightAt, shapeAt, entryAt, orderedIn, seqOf, Shows, putNodes}
 use Rattle.representation.specs.Keeping.{Inside, Rep}
 use Rattle.representation.specs.Meaning.{asks, Meets, Goes}
 use Rattle.representation.specs.Closing.{Closes}
 use Rattle.representation.specs.Making.{Made, Moved, Tested}
+use Rattle.representation.specs.Records.{topFormula, topTerm, topEntry, others}
 use Rattle.representation.proofs.Seat.{unordered-length, ordered-length, ordered-pop, top-in}
 use Rattle.representation.proofs.Areas.{fields, Area, area-start, area-pop, area-push, area-append}
 use Rattle.representation.proofs.Write.{words-none}
@@ -31,19 +32,6 @@ use Rattle.representation.proofs.Making.{made-of}
 use Rattle.representation.proofs.Moving.{moved-of, gives-moved}
 use Rattle.representation.proofs.Branch.{goes-by, gives-asked, gives-close, gives-short, gives-on}
 use Rattle.representation.proofs.Look.{shape-as, look-at, children, fits16}
-
--- the last ordered record: its formula, its term, and the records below it
-abbrev pub topFormula : Lent → Sequent → ℕ
-topFormula x q = formulaAt (x .records) (topPlace q)
-
-abbrev pub topTerm : Lent → Sequent → ℕ
-topTerm x q = termAt (x .records) (topPlace q)
-
-abbrev pub topEntry : Lent → Sequent → M.Entry
-topEntry x q = entryAt (x .records) (topPlace q)
-
-abbrev pub others : Lent → Sequent → List M.Entry
-others x q = orderedIn (x .records) (q .level) (q .ordered - 1)
 
 -- left with nothing left asks search
 pub left-empty : {m : Limits} {taken : List (List ℕ)} {x y : Lent} {s : State} {q : Sequent} {r : Answer} → q .ordered ≡ 0 →

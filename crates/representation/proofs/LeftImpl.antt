@@ -21,6 +21,7 @@ use Rattle.representation.specs.Reading.{Lent, lent, kindAt, leftAt, rig
 use Rattle.representation.specs.Keeping.{Rep}
 use Rattle.representation.specs.Meaning.{asks, Meets, Goes}
 use Rattle.representation.specs.Making.{Made, Moved, Tested}
+use Rattle.representation.specs.Records.{topFormula, topTerm, topEntry, others, fromOf, toOf}
 use Rattle.representation.proofs.Seat.{unordered-length, ordered-length}
 use Rattle.representation.proofs.Areas.{fields, area-push}
 use Rattle.representation.proofs.Write.{words-none}
@@ -29,14 +30,7 @@ use Rattle.representation.proofs.Making.{made-of}
 use Rattle.representation.proofs.Moving.{gives-moved}
 use Rattle.representation.proofs.Branch.{goes-by, gives-short, gives-on}
 use Rattle.representation.proofs.Look.{shape-as, look-at, children, fits16}
-use Rattle.representation.proofs.Left.{topFormula, topTerm, topEntry, others, top-inside, left-by, area-top, drop-moved}
-
--- the indices of A and of C where the last record is A→C
-abbrev pub fromOf : Lent → Sequent → ℕ
-fromOf x q = leftAt (x .words) (topFormula x q)
-
-abbrev pub toOf : Lent → Sequent → ℕ
-toOf x q = rightAt (x .words) (topFormula x q)
+use Rattle.representation.proofs.Left.{top-inside, left-by, area-top, drop-moved}
 
 -- left goes on with these records last
 abbrev pub nextBy : Lent → Sequent → List M.Entry → M.Sequent

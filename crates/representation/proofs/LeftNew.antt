@@ -19,36 +19,20 @@ use Rattle.context.specs.declared.Answer.{Answer}
 use Rattle.context.specs.declared.Answer.the-variants.{Short}
 use Rattle.context.specs.Moves.{spent, pushed, popped, limitsOf}
 use Rattle.context.specs.Area.{Rec, rec, pushPlace}
-use Rattle.representation.specs.Reading.{Lent, lent, kindAt, leftAt, rightAt, entryAt, seqOf, Shows, putNodes}
+use Rattle.representation.specs.Reading.{Lent, lent, kindAt, entryAt, seqOf, Shows, putNodes}
 use Rattle.representation.specs.Keeping.{Rep}
 use Rattle.representation.specs.Meaning.{asks, Meets, Goes}
 use Rattle.representation.specs.Making.{Made, Tested}
+use Rattle.representation.specs.Records.{topFormula, topTerm, fromOf, toOf, firstOf, secondOf}
+use Rattle.representation.specs.Pieces.{curried, injected}
 use Rattle.representation.proofs.Areas.{fields, area-push}
 use Rattle.representation.proofs.Write.{Words, words-imp, words-then}
 use Rattle.representation.proofs.Charge.{words-many, passes}
 use Rattle.representation.proofs.Making.{made-of}
 use Rattle.representation.proofs.Branch.{goes-by, gives-short, gives-on}
 use Rattle.representation.proofs.Look.{shape-as, fits16}
-use Rattle.representation.proofs.Left.{topFormula, topTerm, top-inside, area-top}
-use Rattle.representation.proofs.LeftImpl.{fromOf, toOf, nextBy, next-count, next-level, ends-in, impl-by, from-below}
-
--- the parts of A where the last record is A→C
-abbrev pub firstOf : Lent → Sequent → ℕ
-firstOf x q = leftAt (x .words) (fromOf x q)
-
-abbrev pub secondOf : Lent → Sequent → ℕ
-secondOf x q = rightAt (x .words) (fromOf x q)
-
--- (as (fn a (fn b (app t (pair a b)))) ..): n is the first node, f the ascribed formula
-abbrev pub curried : ℕ → ℕ → ℕ → ℕ → ℕ → List Piece
-curried a b t n f =
-    ident (name a) ∷ ident (name b) ∷ pair n (1 + n) ∷ app t (2 + n) ∷ fn (name b) (3 + n) ∷ fn (name a) (4 + n) ∷ asc (5 + n) f ∷ []
-
--- (as (fn a (app t (inl a))) ..) and then the same with b and inr: n is the first node, f and g are the ascribed formulas
-abbrev pub injected : ℕ → ℕ → ℕ → ℕ → ℕ → ℕ → List Piece
-injected a b t n f g =
-    ident (name a) ∷ inl n ∷ app t (1 + n) ∷ fn (name a) (2 + n) ∷ asc (3 + n) f ∷ ident (name b) ∷ inr (5 + n) ∷ app t (6 + n)
-    ∷ fn (name b) (7 + n) ∷ asc (8 + n) g ∷ []
+use Rattle.representation.proofs.Left.{top-inside, area-top}
+use Rattle.representation.proofs.LeftImpl.{nextBy, next-count, next-level, ends-in, impl-by, from-below}
 
 -- two implications written at the fill
 two-words : {f f1 f2 : List ℕ} {nf a b c d : ℕ} → f1 ≡ set f nf (word (isImp a b)) → f2 ≡ set f1 (nf + 1) (word (isImp c d)) →
@@ -80,7 +64,7 @@ module _ {m : Limits} (taken : List (List ℕ)) {x : Lent} {s : State} {q : Sequ
     curryWords = isImp (secondOf x q) (toOf x q) ∷ isImp (firstOf x q) (s .formulas) ∷ []
 
     abbrev pub curryPieces : List Piece
-    curryPieces = curried a b (topTerm x q) (s .terms) (s .formulas + 1)
+    curryPieces = curried (s .terms) a b (topTerm x q) (s .formulas + 1)
 
     curry-by : (S : M.State) → Shows x s S → (d : ℕ) →
         rule (limited (limitsOf m)) taken (asks m taken d) M.byLeft (seqOf (x .records) q) S ≡
@@ -162,7 +146,7 @@ module _ {m : Limits} (taken : List (List ℕ)) {x : Lent} {s : State} {q : Sequ
     sidesWords = isImp (firstOf x q) (toOf x q) ∷ isImp (secondOf x q) (toOf x q) ∷ []
 
     abbrev pub sidesPieces : List Piece
-    sidesPieces = injected a b (topTerm x q) (s .terms) (s .formulas) (s .formulas + 1)
+    sidesPieces = injected (s .terms) a b (topTerm x q) (s .formulas) (s .formulas + 1)
 
     sides-by : (S : M.State) → Shows x s S → (d : ℕ) →
         rule (limited (limitsOf m)) taken (asks m taken d) M.byLeft (seqOf (x .records) q) S ≡

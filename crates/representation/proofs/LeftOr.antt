@@ -24,6 +24,7 @@ use Rattle.representation.specs.Meaning.{asks, Meets, Goes, Gives}
 use Rattle.representation.specs.Making.{Tested, Made, Back}
 use Rattle.representation.specs.Closing.{Closes}
 use Rattle.representation.specs.Parts.{orNext, orEnd, orSecond}
+use Rattle.representation.specs.Records.{topFormula, topTerm, others}
 use Rattle.representation.proofs.Seat.{unordered-length, ordered-length, ordered-pop}
 use Rattle.representation.proofs.Areas.{fields, area-up, area-push}
 use Rattle.representation.proofs.Write.{words-none}
@@ -32,7 +33,7 @@ use Rattle.representation.proofs.Making.{made-of}
 use Rattle.representation.proofs.Branch.{gives-as, goes-by, gives-close, gives-short, gives-lost, gives-found, back-found}
 use Rattle.representation.proofs.Combine.{Lost}
 use Rattle.representation.proofs.Look.{shape-as, children, fits16}
-use Rattle.representation.proofs.Left.{topFormula, topTerm, others, top-inside, left-by, area-top}
+use Rattle.representation.proofs.Left.{top-inside, left-by, area-top}
 
 -- one premise: the half a in the place of the last record, under the name x
 module _ {m : Limits} (taken : List (List ℕ)) {x : Lent} {s : State} {q : Sequent} (rep : Rep m x s q) (some : 0 < q .ordered) {g : ℕ}

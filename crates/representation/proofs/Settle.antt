@@ -1,18 +1,19 @@
--- Search's rules 1 and 2 as the code comes to them: the goal's leaf is present, nothing fires, a shortage, or all that fire. Assumes nothing.
-use Prim.Native.Nat.{ℕ, zero, suc, _+_, _*_, _≤_, _<_}
+-- Search's rules 1 and 2 as the code comes to them: the goal's leaf is present, nothing fires, a shortage, or all that fire.
+-- Assumes nothing.
+use Prim.Native.Nat.{ℕ, suc, _+_, _*_, _≤_, _<_}
 use mathlib.Core.Path.{_≡_, refl, sym, ap, ap₂, _∙_, subst}
-use mathlib.Core.Bool.{Bool, true, false}
+use mathlib.Core.Bool.{true, false}
 use mathlib.Core.Option.{Option, none, some}
 use mathlib.Core.List.{List, [], _∷_, _++_}
 use native.Mathlib.Omega.{arith}
 use lib.ListN.{length, getD, take}
-use Rattle.theory.specs.Form.{Book, Ext, Form, form, Shape, isTop, isBot, isLeaf, isAnd, isOr, isImp, look, shape}
-use Rattle.theory.specs.Term.{Piece, app, Node, by, search2}
+use Rattle.theory.specs.Form.{Book, Ext, Form, form, Shape, isTop, isBot, isLeaf, isAnd, isOr, isImp, look}
+use Rattle.theory.specs.Term.{Node, search2}
 use Rattle.theory.specs.Premise.{question, Fires, formsOf, sizeOf}
 use Rattle.theory.specs.Premise as P
 use Rattle.theory.specs.Meter as M
 use Rattle.theory.specs.Meter.{limited, charge, count}
-use Rattle.theory.specs.Search.{firstLeaf, Fired, fire, fireAt, fireShape, goOn, halves, fireOr, rule2, onSearch, rule}
+use Rattle.theory.specs.Search.{Fired, fire, goOn, fireOr, rule2, onSearch, rule}
 use Rattle.theory.proofs.Smaller.{smaller}
 use Rattle.theory.proofs.Forms.{ext-by, at-ext}
 use Rattle.theory.proofs.Context.{Reads, reads-ext}
@@ -24,18 +25,18 @@ use Rattle.context.specs.declared.Sequent.{Sequent}
 use Rattle.context.specs.declared.Limits.{Limits}
 use Rattle.context.specs.declared.Answer.{Answer}
 use Rattle.context.specs.declared.Answer.the-variants.{Found, Short}
-use Rattle.context.specs.Moves.{stretch, most, spent, limitsOf}
+use Rattle.context.specs.Moves.{stretch, spent, limitsOf}
 use Rattle.context.specs.Area.{Rec, formulaAt, termAt}
 use Rattle.context.specs.Area as Area
-use Rattle.representation.specs.Tables.{upto, downto}
+use Rattle.representation.specs.Tables.{downto}
 use Rattle.representation.specs.Reading.{Lent, lent, shapeAt, book, entryAt, unorderedIn, orderedIn, seqOf, Shows}
 use Rattle.representation.specs.Keeping.{Same, Rep}
-use Rattle.representation.specs.Meaning.{says-found, Comes, asks, Meets, Goes, Gives, weigh}
+use Rattle.representation.specs.Meaning.{says-found, asks, Goes}
 use Rattle.representation.specs.Making.{Tested, Passes, Made}
-use Rattle.representation.specs.Turning.{tries, GoesLeft, Tries}
+use Rattle.representation.specs.Turning.{GoesLeft, Tries}
 use Rattle.representation.specs.Leaves.{leafPlace, firingIn, pieces, firedAll, Fell}
 use Rattle.representation.proofs.Same.{frame-refl}
-use Rattle.representation.proofs.Look.{book-at, look-at, fits16, spent-none}
+use Rattle.representation.proofs.Look.{look-at}
 use Rattle.representation.proofs.Leaf.{leafOf, termIn, leaf-place, term-in, term-out}
 use Rattle.representation.proofs.Write.{AllFit, words-none}
 use Rattle.representation.proofs.Charge.{passes}
@@ -89,7 +90,8 @@ module _ {m : Limits} (taken : List (List ℕ)) {x : Lent} {s : State} {q : Sequ
       (getD (x .words) (q .goal) 0) (rep .laid (q .goal) (rep .seats .goal-in)))
 
   -- rule 1: the first one's term
-  pub settle-leaf : {j : ℕ} → j ≡ leafPlace (x .words) (x .records) (q .level) (q .unordered) (getD (x .words) (q .goal) 0) → j < q .unordered →
+  pub settle-leaf : {j : ℕ} → j ≡ leafPlace (x .words) (x .records) (q .level) (q .unordered) (getD (x .words) (q .goal) 0) → j <
+      q .unordered →
       {t : ℕ} → t ≡ termAt (x .records) (q .level * stretch + j) → Goes M.bySearch m taken x s q (Found t s) x
   unfolding goal-place
   settle-leaf {j} ej h {t} et = record {
@@ -97,7 +99,11 @@ module _ {m : Limits} (taken : List (List ℕ)) {x : Lent} {s : State} {q : Sequ
       answer = M.found t S;
       depth = 0;
       settles = λ d k. found-in S sh d
-          ∙ ap (λ (o : Option ℕ). elim o [ some t ↦ M.found t S | none ↦ rule2 (limited (limitsOf m)) taken (asks m taken d) (seqOf (x .records) q) S ])
+          ∙ ap (λ (o : Option ℕ). elim o [
+            | some t ↦ M.found t S
+            | none ↦ rule2 (limited (limitsOf m)) taken (asks m taken d)
+                (seqOf (x .records) q) S
+          ])
           (ap (termIn (x .records) (q .level) (q .unordered)) (sym ej) ∙ term-in (x .records) (q .level) (q .unordered) j h)
           ∙ ap (λ (c : ℕ). M.found c S) (sym et);
       says = says-found sh;
@@ -139,7 +145,8 @@ module _ {m : Limits} (taken : List (List ℕ)) {x : Lent} {s : State} {q : Sequ
     unfolding fired unorderedIn
     new-many =
         firing-counts (book (x .words) (s .formulas)) us us (s .terms) .new
-        ∙ sym (firing-counted (x .words) (s .formulas) (rep .laid) (omega (arith, rep .rooms .words-room, rep .within .in-formulas)) (x .records)
+        ∙ sym (firing-counted (x .words) (s .formulas) (rep .laid) (omega (arith, rep .rooms .words-room, rep .within .in-formulas))
+        (x .records)
         (q .level) (q .unordered) inside (q .unordered) (omega arith))
       where
         us : List M.Entry
@@ -152,7 +159,8 @@ module _ {m : Limits} (taken : List (List ℕ)) {x : Lent} {s : State} {q : Sequ
     settle-try {c} ec z no-more = record {
       none = no-more;
       carries = λ r y g. goes-by (λ S sh d. second S sh d
-          ∙ ap (fireOr (limited (limitsOf m)) taken (asks m taken d) (seqOf (x .records) q) S fired) (empty (fired .new) (omega (arith, new-many)))) g;
+          ∙ ap (fireOr (limited (limitsOf m)) taken (asks m taken d) (seqOf (x .records) q) S fired)
+          (empty (fired .new) (omega (arith, new-many)))) g;
     }
       where
         empty : (es : List M.Entry) → length es ≡ 0 → es ≡ []
@@ -199,7 +207,8 @@ module _ {m : Limits} (taken : List (List ℕ)) {x : Lent} {s : State} {q : Sequ
       pub settle-short : {n : ℕ} → Tested m n (s .indices) (s .formulas) (s .terms + c) (q .unordered) (q .level) → (n ≡ 0 → ⊥) →
           Goes M.bySearch m taken x s q (Short n s) x
       unfolding next goOn
-      settle-short t z = goes-by charged (gives-short [] (fired .nodes) next _ t z (omega arith) (omega (arith, nodes-many)) (sym (next-count no-more))
+      settle-short t z = goes-by charged (gives-short [] (fired .nodes) next _ t z (omega arith) (omega (arith, nodes-many))
+          (sym (next-count no-more))
           refl (rep .within))
 
       -- all fire together: left goes on with a smaller sequent

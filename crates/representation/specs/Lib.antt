@@ -1,5 +1,7 @@
 pub mod Tables
 pub mod Reading
+pub mod Records
+pub mod Pieces
 pub mod Keeping
 pub mod Meaning
 pub mod Leaves

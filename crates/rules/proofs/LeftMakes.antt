@@ -25,14 +25,13 @@ use Rattle.representation.specs.Making.{Tested, Passes}
 use Rattle.representation.specs.Turning.{Turns, turns-on, turns-end}
 use Rattle.representation.proofs.Areas.{fields}
 use Rattle.representation.proofs.Charge.{passes}
-use Rattle.representation.proofs.Left.{topTerm}
-use Rattle.representation.proofs.LeftImpl.{toOf, ends-in}
-use Rattle.representation.proofs.LeftNew as New
-use Rattle.representation.proofs.LeftNew.{firstOf, secondOf, curry-parts, left-curry-short, left-curry-made, left-curry}
+use Rattle.representation.proofs.LeftImpl.{ends-in}
+use Rattle.representation.proofs.LeftNew.{curry-parts, left-curry-short, left-curry-made, left-curry}
 use Rattle.representation.proofs.LeftNew.{sides-parts, left-sides-short, left-sides-made, left-sides}
 use Rattle.representation.proofs.FallsNew.{left-curry-falls, left-sides-falls}
 use Rattle.rules.specs.Last.{LastFrom}
-use Rattle.rules.specs.Pieces.{curried, composed}
+use Rattle.representation.specs.Pieces.{curried, composed, injected}
+use Rattle.representation.specs.Records.{topTerm, toOf, firstOf, secondOf}
 use Rattle.rules.proofs.Charged.{tested-popped}
 use Rattle.rules.proofs.LeftTurns.{kind-last, kind-from}
 
@@ -62,7 +61,7 @@ put-append t n (p ∷ ps) rs =
 
 -- inl's five nodes and then inr's
 sides-put : (t : List ℕ) (n a b x f g : ℕ) {t1 t2 : List ℕ} → t1 ≡ putNodes t n (composed n a (inl n) x f) →
-    t2 ≡ putNodes t1 (n + 5) (composed (n + 5) b (inr (n + 5)) x g) → t2 ≡ putNodes t n (New.injected a b x n f g)
+    t2 ≡ putNodes t1 (n + 5) (composed (n + 5) b (inr (n + 5)) x g) → t2 ≡ putNodes t n (injected n a b x f g)
 sides-put t n a b x f g e1 e2 =
     let n5 : n + 5 ≡ 5 + n = omega arith in
     let n6 : 1 + (n + 5) ≡ 6 + n = omega arith in
@@ -123,8 +122,8 @@ module _ {m : Limits} (taken : List (List ℕ)) {x : Lent} {s : State} {q : Sequ
             ef ∙ ap₂ (λ (u v : ℕ). set (x .words) (s .formulas) (word (isImp u v))) (o .1) (o .2) in
             let ef4 : f2 ≡ set f1 (s .formulas + 1) (word (isImp (firstOf x q) (s .formulas))) =
             ef2 ∙ ap (λ (u : ℕ). set f1 (s .formulas + 1) (word (isImp u (s .formulas)))) (o .0) in
-            let et2 : t1 ≡ putNodes (x .numbers) (s .terms) (New.curried g h (topTerm x q) (s .terms) (s .formulas + 1)) =
-            et ∙ ap (λ (u : ℕ). putNodes (x .numbers) (s .terms) (New.curried g h u (s .terms) (s .formulas + 1))) (l .last .term) in
+            let et2 : t1 ≡ putNodes (x .numbers) (s .terms) (curried (s .terms) g h (topTerm x q) (s .formulas + 1)) =
+            et ∙ ap (λ (u : ℕ). putNodes (x .numbers) (s .terms) (curried (s .terms) g h u (s .formulas + 1))) (l .last .term) in
             let ew2 : w1 ≡ set (x .records) (pushPlace q1) (rec (s .formulas + 1) (6 + s .terms)) =
             ew ∙ ap (λ (u : ℕ). set (x .records) (pushPlace q1) (rec (s .formulas + 1) u)) (omega arith) in
             let mk = left-curry-made taken rep (l .last .some) k eg eh d eq (curry-tested eq) z ef3 ef4 et2 ew2 eq2 es in
@@ -185,9 +184,9 @@ module _ {m : Limits} (taken : List (List ℕ)) {x : Lent} {s : State} {q : Sequ
             ef ∙ ap₂ (λ (u v : ℕ). set (x .words) (s .formulas) (word (isImp u v))) (o .0) (o .2) in
             let ef4 : f2 ≡ set f1 (s .formulas + 1) (word (isImp (secondOf x q) (toOf x q))) =
             ef2 ∙ ap₂ (λ (u v : ℕ). set f1 (s .formulas + 1) (word (isImp u v))) (o .1) (o .2) in
-            let et3 : t2 ≡ putNodes (x .numbers) (s .terms) (New.injected g h (topTerm x q) (s .terms) (s .formulas) (s .formulas + 1)) =
+            let et3 : t2 ≡ putNodes (x .numbers) (s .terms) (injected (s .terms) g h (topTerm x q) (s .formulas) (s .formulas + 1)) =
             sides-put (x .numbers) (s .terms) g h t (s .formulas) (s .formulas + 1) et et2
-            ∙ ap (λ (u : ℕ). putNodes (x .numbers) (s .terms) (New.injected g h u (s .terms) (s .formulas) (s .formulas + 1)))
+            ∙ ap (λ (u : ℕ). putNodes (x .numbers) (s .terms) (injected (s .terms) g h u (s .formulas) (s .formulas + 1)))
             (l .last .term) in
             let ew3 : w1 ≡ set (x .records) (pushPlace q1) (rec (s .formulas) (4 + s .terms)) =
             ew ∙ ap (λ (u : ℕ). set (x .records) (pushPlace q1) (rec (s .formulas) u)) (omega arith) in

@@ -22,10 +22,11 @@ use Rattle.representation.specs.Keeping.{Rep}
 use Rattle.representation.specs.Closing.{Closes}
 use Rattle.representation.specs.Making.{Moved, Tested}
 use Rattle.representation.specs.Turning.{Turns, turns-on, turns-end, turns-split}
+use Rattle.representation.specs.Records.{topFormula, topTerm, topEntry, others, fromOf, toOf}
 use Rattle.representation.proofs.Areas.{fields}
-use Rattle.representation.proofs.Left.{topFormula, topTerm, topEntry, others, drop-moved, settle-moved, left-true, left-false, left-leaf}
+use Rattle.representation.proofs.Left.{drop-moved, settle-moved, left-true, left-false, left-leaf}
 use Rattle.representation.proofs.Left.{left-and-short, left-and-made, left-and}
-use Rattle.representation.proofs.LeftImpl.{fromOf, toOf, left-false-impl, left-wait}
+use Rattle.representation.proofs.LeftImpl.{left-false-impl, left-wait}
 use Rattle.representation.proofs.LeftImpl.{left-true-impl-short, left-true-impl-made, left-true-impl}
 use Rattle.representation.proofs.FallsLeft.{drop-falls, settle-falls, left-and-falls, left-true-impl-falls}
 use Rattle.rules.specs.Last.{Last, LastFrom}

@@ -15,7 +15,7 @@ use Rattle.context.specs.Moves.{spent}
 use Rattle.representation.specs.Reading.{putNodes}
 use Rattle.representation.specs.Closing.{Closes, closes-node}
 use Rattle.representation.proofs.Write.{put-same}
-use Rattle.rules.specs.Pieces.{curried, composed}
+use Rattle.representation.specs.Pieces.{curried, composed}
 
 -- fields that have their width are packed as they are
 pub arrow-word : (a b : ℕ) → a < 16384 → b < 16384 → pack (5 % 16) (a % 16384) (b % 16384) ≡ word (isImp a b)

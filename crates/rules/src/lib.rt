@@ -13,7 +13,7 @@ ghost use Rattle.representation.specs.Reading.{lent, putNodes};
 ghost use Rattle.representation.specs.Keeping.{Rep};
 ghost use Rattle.representation.specs.Closing.{Closes};
 ghost use Rattle.representation.specs.Turning.{Turns, Turned};
-ghost use Rattle.rules.specs.Pieces.{curried, composed};
+ghost use Rattle.representation.specs.Pieces.{curried, composed};
 ghost use Rattle.rules.specs.Last.{Last, LastFrom, nested};
 use context::Answer;
 use context::Limits;

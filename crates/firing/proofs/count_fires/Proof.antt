@@ -30,13 +30,23 @@ loop-less : tie.Need-loop-less Inv-loop μ-loop
 loop-less c = search needs
 
 loop-again : tie.Need-loop-again Inv-loop μ-loop
-loop-again c = (search needs, search needs, counts-one _ _ _ _ _ (c .before .before .before .loop .inv .2) (c .before .fires .ensures) (c .if1 .taken))
+loop-again c = (
+  search needs,
+  search needs,
+  counts-one _ _ _ _ _ (c .before .before .before .loop .inv .2) (c .before .fires .ensures)
+      (c .if1 .taken),
+)
 
 loop-less-2 : tie.Need-loop-less-2 Inv-loop μ-loop
 loop-less-2 c = search needs
 
 loop-again-2 : tie.Need-loop-again-2 Inv-loop μ-loop
-loop-again-2 c = (search needs, search needs, counts-none _ _ _ _ _ (c .before .before .before .loop .inv .2) (c .before .fires .ensures) (c .if1 .left))
+loop-again-2 c = (
+  search needs,
+  search needs,
+  counts-none _ _ _ _ _ (c .before .before .before .loop .inv .2) (c .before .fires .ensures)
+      (c .if1 .left),
+)
 
 returns : tie.Need-returns Inv-loop μ-loop
 returns c = counts-end _ _ _ _ _ (c .before .loop .inv .2) (c .before .loop .inv .0) (search needs)

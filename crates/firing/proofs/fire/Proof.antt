@@ -80,11 +80,14 @@ returns-3 : tie.Need-returns-3
 returns-3 c =
     λ taken.
     turns-on (settle-goes taken
-    (c .before .before .before .before .before .before .before .before .before .before .before .before .before .before .before .before .pre .0)
-    (c .before .before .before .before .before .before .before .before .before .before .before .before .before .before .before .before .pre .1 .1)
+    (c .before .before .before .before .before .before .before .before .before .before .before .before .before .before .before .before
+    .pre .0)
+    (c .before .before .before .before .before .before .before .before .before .before .before .before .before .before .before .before
+    .pre .1 .1)
     (c .before .before .before .before .before .before .before .before .before .before .before .before .count-fires .ensures)
     (c .before .before .before .before .before .before .before .before .before .before .before .if1 .left)
-    (c .before .before .before .before .before .before .before .before .before .before .before .before .before .before .before .before .pre .1 .0)
+    (c .before .before .before .before .before .before .before .before .before .before .before .before .before .before .before .before
+    .pre .1 .0)
     (record { is = c .before .before .before .before .before .before .before .before .before .lack .ensures })
     (c .before .before .before .before .before .before .before .before .if2 .left)
     (c .spend .ensures)

@@ -1,5 +1,5 @@
 -- What a record that fires leaves: its node, the area without it, and what it yields. Assumes nothing.
-use mathlib.Core.Path.{_≡_, ap, _∙_}
+use mathlib.Core.Path.{ap, _∙_}
 use Rattle.context.specs.Moves.{pushed}
 use Rattle.firing.proofs.Walk.{room-without, node-fired, area-fired}
 use borrow.Author.Needs.{needs}
@@ -40,7 +40,8 @@ push-requires : tie.Need-push-requires
 push-requires c κs =
     room-without
     (c .before .before .remove .ensures .0)
-    (c .before .before .before .before .before .before .before .before .before .before .before .before .before .before .before .before .before .before .pre .0)
+    (c .before .before .before .before .before .before .before .before .before .before .before .before .before .before .before .before
+    .before .before .pre .0)
 
 same-length : tie.Need-same-length
 same-length c = search needs
@@ -57,13 +58,15 @@ returns c = (
         (c .before .before .before .before .before .before .before .before .before .before .before .before .term-at .ensures)
         (c .before .before .before .before .before .before .before .before .before .before .term-at2 .ensures),
     area-fired _ _ _ _
-        (c .before .before .before .before .before .before .before .before .before .before .before .before .before .before .before .before .before .before .before .before .args .f .now)
+        (c .before .before .before .before .before .before .before .before .before .before .before .before .before .before .before
+        .before .before .before .before .before .args .f .now)
         _
         (c .before .before .before .before .remove .ensures .0)
         (c .before .before .before .before .remove .ensures .1)
         (c .before .push .ensures .1)
         (c .before .before .before .before .before .before .before .before .before .before .before .before .before .before .right .ensures)
-        (c .before .before .before .before .before .before .before .before .before .before .before .before .before .before .before .formula-at .ensures),
+        (c .before .before .before .before .before .before .before .before .before .before .before .before .before .before .before
+        .formula-at .ensures),
   ),
 )
 

@@ -38,7 +38,8 @@ returns-2 : tie.Need-returns-2
 returns-2 c = by-leaf _ _ _ _ _ _ (cc) (c .before .before .before .before .before .before .if1 .left) (cc) (c .find-leaf .ensures)
 
 returns-3 : tie.Need-returns-3
-returns-3 c = by-other _ _ _ _ _ (c .before .before .before .word .result) (cc) (c .before .before .before .before .before .if1 .left) (cc) (cc)
+returns-3 c = by-other _ _ _ _ _ (c .before .before .before .word .result) (cc) (c .before .before .before .before .before .if1 .left)
+    (cc) (cc)
 
 pub fires-spec : {M : Type 1} → statement M
 fires-spec =

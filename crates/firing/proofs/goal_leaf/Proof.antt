@@ -20,7 +20,8 @@ returns : tie.Need-returns
 returns c = place-as _ _ _ _ (c .find-leaf .ensures) (c .before .before .before .before .word .ensures)
 
 returns-2 : tie.Need-returns-2
-returns-2 c = place-none _ _ _ _ (c .before .before .before .word .ensures) (c .before .before .kind-of .ensures) (c .before .leaf-kind .ensures) (c .if1 .left)
+returns-2 c = place-none _ _ _ _ (c .before .before .before .word .ensures) (c .before .before .kind-of .ensures)
+    (c .before .leaf-kind .ensures) (c .if1 .left)
 
 pub goal-leaf-spec : {M : Type 1} → statement M
 goal-leaf-spec =

@@ -27,7 +27,8 @@ returns c =
     let start = at-name .before .before .before .before .before in
     let names = now (start .args .names) in
     let x = start .args .x in
-    let bytes = at-name .name .ensures .bytes ∙ lookup-assumed names names x (omega arith) ∙ assumed-bytes (namesIn names) x (omega arith) in
+    let bytes = at-name .name .ensures .bytes ∙ lookup-assumed names names x (omega arith) ∙ assumed-bytes (namesIn names) x
+    (omega arith) in
     laid-as (ap some bytes) (at-lay .lay .ensures)
 
 lay-generated-requires : tie.Need-lay-generated-requires

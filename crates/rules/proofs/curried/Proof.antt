@@ -3,7 +3,7 @@ use borrow.Author.Needs.{needs}
 use Rattle.rules.proofs.curried.Statement.{statement}
 use Rattle.rules.proofs.curried.Tie as tie
 use Rattle.rules.proofs.Written.{curried-is, put-long}
-use Rattle.rules.specs.Pieces.{curried}
+use Rattle.representation.specs.Pieces.{curried}
 
 add-first : tie.Need-add-first
 add-first c = search needs
