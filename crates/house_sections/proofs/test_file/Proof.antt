@@ -148,8 +148,8 @@ returns-8 c =
     let found = c .before .before .before .before .before in
     let end = sym (found .at .given .1) ∙ found .before .before .entries-end .ensures in (
       is-held file (one .if1 .left) (formulas .result) (two .if2 .left) (formulas .ensures .0) (three .if3 .left)
-          (assumptions .result) (four .if4 .left) (assumptions .ensures .0) (five .if5 .left) (found .at .given .0 .0) end (c .before .goal .given .0 .0)
-          (sym (c .before .goal .given .1) ∙ c .before .before .before .goal-at .ensures),
+          (assumptions .result) (four .if4 .left) (assumptions .ensures .0) (five .if5 .left) (found .at .given .0 .0) end
+          (c .before .goal .given .0 .0) (sym (c .before .goal .given .1) ∙ c .before .before .before .goal-at .ensures),
       is-seen file (one .if1 .left) (formulas .result) (two .if2 .left) (formulas .ensures .0) (three .if3 .left)
           (assumptions .result) (four .if4 .left) (assumptions .ensures .0) (five .if5 .left) (found .at .given .0 .0) end,
     )
