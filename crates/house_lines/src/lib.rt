@@ -1,5 +1,5 @@
-// The lines that the program prints for one answer, laid from the front of a lent buffer, with zeros behind them. The three public functions
-// are for `house_file`: they require numbers of at most seven digits and room for their lines, which it shows.
+// The lines that the program prints for one answer, laid from the front of a lent buffer, with zeros behind them. The three public
+// functions are for `house_file`: they require numbers of at most seven digits and room for their lines, which it shows.
 ghost use mathlib.Core.Path.{_≡_};
 ghost use mathlib.Core.Option.{some};
 ghost use Prim.Native.Nat.{_≤_, _<_};
