@@ -1,0 +1,38 @@
+-- `refuted`: the outcome's case tells. Assumes nothing.
+use borrow.Author.Needs.{needs}
+use Rattle.status.specs.Answers.{refutedAs}
+use Rattle.status.proofs.refuted.Statement.{statement}
+use Rattle.status.proofs.refuted.Tie as tie
+
+enum-told : tie.Need-enum-told
+enum-told c = search needs
+
+enum-told-2 : tie.Need-enum-told-2
+enum-told-2 c = search needs
+
+enum-told-3 : tie.Need-enum-told-3
+enum-told-3 c = search needs
+
+enum-told-4 : tie.Need-enum-told-4
+enum-told-4 c = search needs
+
+returns : tie.Need-returns
+unfolding refutedAs
+returns c = search needs
+
+returns-2 : tie.Need-returns-2
+unfolding refutedAs
+returns-2 c = search needs
+
+returns-3 : tie.Need-returns-3
+unfolding refutedAs
+returns-3 c = search needs
+
+returns-4 : tie.Need-returns-4
+unfolding refutedAs
+returns-4 c = search needs
+
+pub refuted-spec : {M : Type 1} → statement M
+refuted-spec =
+    tie.close
+    (tie.spec enum-told enum-told-2 enum-told-3 enum-told-4 returns returns-2 returns-3 returns-4)

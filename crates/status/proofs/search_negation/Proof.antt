@@ -1,0 +1,92 @@
+-- `search_negation`: with no room it says nothing; else the second claim is searched. Assumes nothing.
+use borrow.Author.Needs.{needs}
+use mathlib.Core.Path.{refl, _∙_}
+use denote.Ref.{now}
+use Rattle.status.proofs.Second.{few-words, no-room, appended, second-answers}
+use Rattle.status.proofs.search_negation.Statement.{statement}
+use Rattle.status.proofs.search_negation.Tie as tie
+
+add-if1 : tie.Need-add-if1
+add-if1 c =
+    let s = c .before .before in
+    let a = s .args in
+    let few = few-words (now (a .f)) (a .count) (a .goal) (now (a .t)) (now (a .w)) (a .steps) (s .pre .0) in
+    search (needs, few)
+
+returns : tie.Need-returns
+returns c =
+    let s = c .before .before .before in
+    let a = s .args in (
+      no-room (now (a .f)) (a .count) (a .goal) (now (a .t)) (now (a .w)) (a .steps) (s .pre .0) (c .if1 .taken),
+      (refl, s .pre .1),
+    )
+
+pack-requires : tie.Need-pack-requires
+pack-requires c κs = search needs
+
+store-requires : tie.Need-store-requires
+store-requires c κs = search needs
+
+add-store : tie.Need-add-store
+add-store c = search needs
+
+pack-requires-2 : tie.Need-pack-requires-2
+pack-requires-2 c κs = search needs
+
+store-requires-2 : tie.Need-store-requires-2
+store-requires-2 c κs = search needs
+
+add-search : tie.Need-add-search
+add-search c = search needs
+
+add-search-2 : tie.Need-add-search-2
+add-search-2 c = search needs
+
+search-requires : tie.Need-search-requires
+search-requires c κs = search needs
+
+refuted-requires : tie.Need-refuted-requires
+refuted-requires c κs = search needs
+
+same-length : tie.Need-same-length
+same-length c = search needs
+
+same-length-2 : tie.Need-same-length-2
+same-length-2 c = search needs
+
+same-length-3 : tie.Need-same-length-3
+same-length-3 c = search needs
+
+returns-2 : tie.Need-returns-2
+returns-2 c =
+    let g = c .before .before .before .before .before .before in
+    let b = g .before .before .before .before .before .before in
+    let d = b .before .before .before .before .before in
+    let i = d .before .before .before in
+    let s = i .before .before .before in
+    let a = s .args in
+    let words = appended (now (a .f)) (a .count) (a .goal) (now (a .t)) (now (a .w)) (a .steps) (s .pre .0) (i .if1 .left)
+    (d .before .pack .ensures) (b .before .pack2 .ensures) (d .store .ensures) (b .store2 .ensures) in
+    let r = second-answers (now (a .f)) (a .count) (a .goal) (now (a .t)) (now (a .w)) (a .steps) (s .pre .0) (i .if1 .left)
+    words (g .search .ensures) in
+    (c .refuted .ensures ∙ r .0, (r .1, r .2))
+
+pub search-negation-spec : {M : Type 1} → statement M
+search-negation-spec =
+    tie.close
+    (tie.spec
+    add-if1
+    returns
+    pack-requires
+    store-requires
+    add-store
+    pack-requires-2
+    store-requires-2
+    add-search
+    add-search-2
+    search-requires
+    refuted-requires
+    same-length
+    same-length-2
+    same-length-3
+    returns-2)
