@@ -1,0 +1,2 @@
+-- The laws behind the proofs of `rows`. Assumes nothing.
+pub mod Laying

@@ -1,0 +1,2 @@
+-- The definitions that the contracts of `rows` cite. Assumes nothing.
+pub mod Bytes

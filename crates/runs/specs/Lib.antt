@@ -1,0 +1,2 @@
+-- The definitions that the contracts of `runs` cite. Assumes nothing.
+pub mod Seven
