@@ -1,0 +1,44 @@
+-- What the program makes of a tested file: the file in theory's words, the search's answer, and the lines of it. Assumes nothing.
+use Prim.Native.Nat.{ℕ, _+_, _*_}
+use mathlib.Core.Path.{_≡_}
+use mathlib.Core.List.{List, [], _∷_}
+use lib.ListN.{drop, replicate}
+use Rattle.theory.specs.Call.{Claim, called}
+use Rattle.theory.specs.Writer.{written}
+use Rattle.theory.specs.File.{File, refusedLine, provedLines}
+use Rattle.claim.specs.declared.Outcome.{Outcome}
+use Rattle.claim.specs.declared.Outcome.the-variants.{Proved, Unprovable, Short, Refused}
+use Rattle.claim.specs.Outcomes.{outcomeOf}
+use Rattle.house_text.specs.Tested.{draft}
+use Rattle.house_lines.specs.Lines.{Printable, unprovableLines}
+use Rattle.house_sections.specs.Held.{numbersFrom, indicesFrom, textFrom}
+
+-- the file that the sections found in the bytes make, as `heldBy` of `house_sections` has it
+abbrev pub fileIn : ℕ → ℕ → ℕ → List ℕ → File
+fileIn formulas assumptions goal bs = record {
+  words = numbersFrom 4 formulas (drop 2 bs);
+  indices = indicesFrom assumptions (drop (4 + 4 * formulas) bs);
+  text = textFrom assumptions (drop (4 + 4 * formulas) bs);
+  goals = goal ∷ [];
+}
+
+-- o is the outcome of the claim x, and f and t are its words and term numbers afterwards
+pub record Answers (x : Claim) (o : Outcome) (f t : List ℕ) : Type 0 where
+  pub outcome : o ≡ outcomeOf ((called x) .outcome)
+  pub words : f ≡ (called x) .words
+  pub terms : t ≡ (called x) .terms
+
+-- the lines of an answer, from what the search left and the assumptions' names
+unfoldable pub linesFor : Outcome → List ℕ → List ℕ → ℕ → List ℕ → List ℕ
+linesFor (Proved r n u f t) words terms assumptions text =
+    provedLines n u f t (written (draft words f assumptions text terms t r (replicate 32768 0)))
+linesFor (Unprovable n u f t) words terms assumptions text = unprovableLines n
+linesFor (Short k n) words terms assumptions text = refusedLine k
+linesFor (Refused k i) words terms assumptions text = refusedLine k
+
+-- the numbers that are printed have at most seven digits
+abbrev pub Printables : Outcome → Type 0
+Printables (Proved r n u f t) = Printable n × Printable u × Printable f × Printable t
+Printables (Unprovable n u f t) = Printable n
+Printables (Short k n) = Printable k
+Printables (Refused k i) = Printable k
