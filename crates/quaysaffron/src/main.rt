@@ -1,0 +1,87 @@
+// Prints what the prover says of a house file: the file that the first argument names, or standard input where there is none.
+ghost use Prim.Native.Nat.{_≤_};
+ghost use mathlib.Core.Path.{_≡_};
+ghost use lib.ListN.{length, take};
+ghost use Rattle.quaysaffron.specs.Reading.{Behind, Front};
+use libc::STDIN_FILENO;
+use libc::STDOUT_FILENO;
+
+// What reading came to: so many bytes, or a read that failed.
+enum Input {
+    Bytes(usize),
+    Failed,
+}
+
+// Reads once, into the buffer from `done` on, and leaves what was read before; 0 bytes are the end of the input.
+fn read_more(fd: i32, buf: &mut [u8], done: usize) -> Input
+    requires { ⌜ done ≤ length (now buf) ⌝ }
+    ensures { λ r. ⌜ Behind done r (now (buf .exit)) ⌝ }
+    ensures { λ _. ⌜ take done (now (buf .exit)) ≡ take done (now (buf .entry)) ⌝ }
+{
+    let got = libc::read(fd, &mut buf[done..]);
+    if got < 0 {
+        return Input::Failed;
+    }
+    Input::Bytes(io::count(got, &buf[done..]))
+}
+
+// Reads until the input ends or the buffer is full: a pipe hands its bytes over in pieces.
+fn read_all(fd: i32, buf: &mut [u8]) -> Input
+    ensures { λ r. ⌜ Front r (now (buf .exit)) ⌝ }
+{
+    let mut done = 0;
+    while done < buf.len() {
+        let piece = read_more(fd, buf, done);
+        let Input::Bytes(more) = piece else {
+            return Input::Failed;
+        };
+        if more == 0 {
+            return Input::Bytes(done);
+        }
+        done += more;
+    }
+    Input::Bytes(done)
+}
+
+// The most that the lines of an answer take.
+const MOST_PRINTED: usize = 32835;
+
+fn print(file: &[u8]) {
+    let mut out = [0u8; MOST_PRINTED];
+    let n = house_file::output(file, &mut out);
+    if !io::write_all(STDOUT_FILENO, &out[..n]) {
+        os::fail(b"standard output");
+    }
+}
+
+// A byte more than a house file may have, which is enough to know that it has too many.
+const MOST_READ: usize = 32769;
+
+fn answer(fd: i32, name: &[u8]) {
+    let mut file = [0u8; MOST_READ];
+    let input = read_all(fd, &mut file);
+    match input {
+        Input::Bytes(n) => print(&file[..n]),
+        Input::Failed => os::fail(name),
+    }
+}
+
+fn main() {
+    if os::arg_count() < 2 {
+        answer(STDIN_FILENO, b"standard input");
+        return;
+    }
+    let mut path = io::buffer();
+    let n = os::arg(1, &mut path);
+    if os::errno() != 0 {
+        os::fail(b"the file's name");
+        return;
+    }
+    let fd = os::open_read(&path[..n]);
+    if fd < 0 {
+        os::fail(&path[..n]);
+        return;
+    }
+    answer(fd, &path[..n]);
+    libc::close(fd);
+}
