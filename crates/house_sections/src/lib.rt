@@ -1,4 +1,5 @@
 // The sections of a house file: the whole file is tested before anything is written, then each section is copied into a lent array.
+// The copies are for `house_file`: they require a file that passed the test and room for the section, which it shows.
 ghost use Prim.Native.Nat.{_+_, _*_, _^_, _≤_, _<_};
 ghost use mathlib.Core.Path.{_≡_};
 ghost use lib.ListN.{length, take, drop};
