@@ -1,5 +1,4 @@
 -- `unprovable` lays two lines and clears the rest. Assumes nothing.
-use mathlib.Core.Option.{some}
 use Rattle.theory.specs.Text.{bytes}
 use Rattle.house_text.specs.Laid.{joined}
 use Rattle.house_text.proofs.Laying.{laid-then}
