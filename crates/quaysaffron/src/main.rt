@@ -2,6 +2,7 @@
 ghost use Prim.Native.Nat.{_≤_};
 ghost use mathlib.Core.Path.{_≡_};
 ghost use lib.ListN.{length, take};
+ghost use Rattle.theory.specs.File.{printed};
 ghost use Rattle.quaysaffron.specs.Reading.{Behind, Front};
 use libc::STDIN_FILENO;
 use libc::STDOUT_FILENO;
@@ -43,15 +44,22 @@ fn read_all(fd: i32, buf: &mut [u8]) -> Input
     Input::Bytes(done)
 }
 
+// Writes the lines of a file, which only the contract looks at, to standard output.
+fn write_lines(lines: &[u8], file: &[u8])
+    requires { ⌜ now lines ≡ printed (now file) ⌝ }
+{
+    if !io::write_all(STDOUT_FILENO, lines) {
+        os::fail(b"standard output");
+    }
+}
+
 // The most that the lines of an answer take.
 const MOST_PRINTED: usize = 32835;
 
 fn print(file: &[u8]) {
     let mut out = [0u8; MOST_PRINTED];
     let n = house_file::output(file, &mut out);
-    if !io::write_all(STDOUT_FILENO, &out[..n]) {
-        os::fail(b"standard output");
-    }
+    write_lines(&out[..n], file);
 }
 
 // A byte more than a house file may have, which is enough to know that it has too many.
