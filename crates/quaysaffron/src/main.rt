@@ -44,7 +44,7 @@ fn read_all(fd: i32, buf: &mut [u8]) -> Input
     Input::Bytes(done)
 }
 
-// Writes the lines of a file, which only the contract looks at, to standard output.
+// Writes lines to standard output. Only the contract looks at `file`: they are its lines.
 fn write_lines(lines: &[u8], file: &[u8])
     requires { ⌜ now lines ≡ printed (now file) ⌝ }
 {
