@@ -1,25 +1,79 @@
-//! The program's one proved call as another language calls it, fed as the model is: prints what the program prints for a house file.
+//! The proved calls as another language calls them, fed as the model is: what the program prints for a house file, or with --status the
+//! status of its goal, the assumptions left out.
 mod feed;
 
 use std::io;
 
 const ROOM: usize = 32_835;
 
-#[link(name = "house_file", kind = "static")]
+#[link(name = "exported", kind = "static")]
 extern "C" {
-    fn output(file: *const u8, length: usize, out: *mut [u8; ROOM]) -> usize;
+    fn quaysaffron_output(file: *const u8, length: usize, out: *mut [u8; ROOM]) -> usize;
+    fn quaysaffron_status(
+        words: *mut u32,
+        room: usize,
+        count: usize,
+        goal: usize,
+        terms: *mut u16,
+        numbers: usize,
+        work: *mut [u16; 2],
+        records: usize,
+        steps: usize,
+    ) -> usize;
 }
 
-/// The answer, from an array full of junk; behind the answer every byte must be zero.
-fn answer(file: &[u8]) -> Vec<u8> {
+/// The printed bytes, from an array full of junk; behind them every byte must be zero.
+fn printed(file: &[u8]) -> Vec<u8> {
     let mut out = [0xaa; ROOM];
     // the file and the array are whole and apart, as the call takes them
-    let length = unsafe { output(file.as_ptr(), file.len(), &mut out) };
+    let length = unsafe { quaysaffron_output(file.as_ptr(), file.len(), &mut out) };
     assert!(out[length..].iter().all(|byte| *byte == 0));
     out[..length].to_vec()
 }
 
+/// The status of the last index of a well-cut file, with the program's limits and slices full of junk; added words, term numbers and
+/// records must be zero in the end, unless the call was refused.
+fn status(file: &[u8]) -> Vec<u8> {
+    let half = |at: usize| u16::from_le_bytes([file[at], file[at + 1]]) as usize;
+    let count = half(0);
+    let word =
+        |i: usize| u32::from_le_bytes(file[2 + 4 * i..6 + 4 * i].try_into().expect("a word"));
+    let mut words: Vec<u32> = (0..4096)
+        .map(|i| if i < count { word(i) } else { 8 })
+        .collect();
+    let mut terms = vec![0xaaaa; 4096 * 6];
+    let mut work = vec![[0xaaaa; 2]; 16384];
+    // the slices are whole and apart, as the call takes them
+    let number = unsafe {
+        quaysaffron_status(
+            words.as_mut_ptr(),
+            words.len(),
+            count,
+            half(file.len() - 2),
+            terms.as_mut_ptr(),
+            terms.len(),
+            work.as_mut_ptr(),
+            work.len(),
+            1_000_000,
+        )
+    };
+    let zeros = words[count..].iter().all(|word| *word == 0)
+        && terms.iter().all(|number| *number == 0)
+        && work.iter().all(|record| *record == [0, 0]);
+    assert!(zeros || (17..=21).contains(&number));
+    match number {
+        0 => b"solvable\n".to_vec(),
+        1 => b"unsolvable\n".to_vec(),
+        2 => b"unknown\n".to_vec(),
+        _ => format!("refused {}\n", number - 16).into_bytes(),
+    }
+}
+
 fn main() -> io::Result<()> {
-    let feed = feed::command_line(|option, _| panic!("no option {option}"));
+    let mut answer: fn(&[u8]) -> Vec<u8> = printed;
+    let feed = feed::command_line(|option, _| match option {
+        "--status" => answer = status,
+        _ => panic!("no option {option}"),
+    });
     feed::on_a_stack(1 << 23, move || feed.answer(0, |_, file| answer(file)))
 }
