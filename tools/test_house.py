@@ -57,7 +57,8 @@ class Made(unittest.TestCase):
     def test_let_shares_what_would_not_fit(self):
         rows = ["let d0 = T"] + ["let d%d = (& d%d d%d)" % (i + 1, i, i) for i in range(200)]
         self.assertEqual(len(unpacked(made("\n".join([*rows, "goal d200"])))[0]), 201)
-        self.assertEqual(fault_of("\n".join(["unshared", *rows, "goal d200"])), "LIST: too many formulas: a word can name no part past word 16383")
+        told = "LIST: too many formulas: a word can name no part past word 16383"
+        self.assertEqual(fault_of("\n".join(["unshared", *rows, "goal d200"])), told)
 
     def test_word_lines_are_exact(self):
         file = made("word 0 = p0\nword 1 = p0\nword 2..3 = (> @1 @0)\nassume x : (> p0 @1)\ngoal @3")
