@@ -4,9 +4,7 @@ mod show;
 
 use rows::field;
 
-const MOST_BYTES: usize = 65536;
-
-const MOST_TEXT: usize = 32769;
+const MOST_BYTES: usize = 131072;
 
 // Where a row's book stands, behind its numbers and its name.
 fn behind(list: &[u8], row: usize) -> usize {
@@ -33,12 +31,14 @@ fn line(list: &[u8], row: usize, book: usize) {
     let name = rows::skip(list, row, runs::HEAD + 1);
     show::text(rows::part(list, name, field(list, row, runs::HEAD)));
     show::text(b": ");
-    let mut text = [runs::junk(list, row); MOST_TEXT];
+    let mut text = [runs::junk(list, row); runs::MOST_TEXT];
     let answer = runs::run(list, row, book, &mut text);
-    if runs::writes(list, row) {
-        return show::draft(answer, &text);
+    match runs::kind(list, row) {
+        1 => show::draft(answer, &text),
+        2 => show::status(answer),
+        3 => show::file(answer),
+        _ => show::claim(answer, &text),
     }
-    show::claim(answer, &text)
 }
 
 // How the list was made, and how many rows it has; then the rows.

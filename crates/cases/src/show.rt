@@ -47,7 +47,7 @@ fn refused(call: [usize; 7]) {
 // A text of at most this many bytes is shown, a longer one told by its length and its checksum.
 const SHOWN: usize = 160;
 
-fn written(answer: Answer, t: &[u8]) {
+fn written(answer: Answer, t: &[u8; runs::MOST_TEXT]) {
     let length = answer.length;
     if length == 0 {
         number(b"text ", answer.writer);
@@ -68,7 +68,7 @@ fn numbers(call: [usize; 7]) {
 }
 
 // Only a proof has nodes.
-fn found(answer: Answer, t: &[u8]) {
+fn found(answer: Answer, t: &[u8; runs::MOST_TEXT]) {
     let call = answer.call;
     if call[6] == 0 {
         text(b"unprovable");
@@ -98,7 +98,7 @@ fn kept(holds: bool, n: usize) {
 }
 
 // The answer of the search.
-pub fn claim(answer: Answer, t: &[u8]) {
+pub fn claim(answer: Answer, t: &[u8; runs::MOST_TEXT]) {
     let call = answer.call;
     let n = call[0];
     if n == 0 {
@@ -110,7 +110,7 @@ pub fn claim(answer: Answer, t: &[u8]) {
 }
 
 // The answer of the writer.
-pub fn draft(answer: Answer, t: &[u8]) {
+pub fn draft(answer: Answer, t: &[u8; runs::MOST_TEXT]) {
     let call = answer.call;
     let n = call[0];
     if n == 0 {
@@ -119,4 +119,36 @@ pub fn draft(answer: Answer, t: &[u8]) {
     }
     refused(call);
     kept(answer.kept, n)
+}
+
+fn verdict(n: usize) {
+    match n {
+        1 => text(b"Solvable"),
+        2 => text(b"Unsolvable"),
+        _ => text(b"Unknown"),
+    }
+}
+
+// The answer of the status.
+pub fn status(answer: Answer) {
+    let call = answer.call;
+    let n = call[0];
+    if n == 0 {
+        verdict(call[2]);
+        return kept(answer.kept, n);
+    }
+    refused(call);
+    kept(answer.kept, n)
+}
+
+// What the program prints for a file: a refusal's line, or how many bytes.
+pub fn file(answer: Answer) {
+    let call = answer.call;
+    if call[0] == 0 {
+        number(b"prints ", answer.length);
+        number(b" bytes, Adler-32 ", answer.checksum);
+        return kept(answer.kept, 0);
+    }
+    number(b"prints refused ", call[0]);
+    kept(answer.kept, 6)
 }

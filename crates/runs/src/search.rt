@@ -1,4 +1,4 @@
-// A claim through the public call, and its term through the writer.
+// A claim through the public call, and its term through the writer. The lent slices serve the status too.
 ghost use mathlib.Core.Path.{_≡_};
 ghost use mathlib.Core.Bool.{_&&_};
 ghost use Rattle.claim.specs.Outcomes.{numbersOf};
@@ -63,10 +63,10 @@ fn ask(
 }
 
 // What lies above the given words and the nodes that stay: zero after an answer or a shortage, junk still after a refusal.
-struct Rest {
-    words: usize,
-    numbers: usize,
-    value: u8,
+pub struct Rest {
+    pub words: usize,
+    pub numbers: usize,
+    pub value: u8,
 }
 
 fn left_over(s: &[u8], row: usize, book: usize, outcome: Outcome) -> Rest {
@@ -118,7 +118,7 @@ fn record_value(s: &[u8], row: usize, outcome: Outcome) -> usize {
 }
 
 // The given words stand, and the rest of words and numbers is as it must be.
-fn kept(s: &[u8], book: usize, f: &[u32], t: &[u16], rest: Rest) -> bool {
+pub fn kept(s: &[u8], book: usize, f: &[u32], t: &[u16], rest: Rest) -> bool {
     if rows::words_stand(s, book::words_at(s, book), book::given(s, book), f) {
         if rows::words_are(f, rest.words, rest.value as u32) {
             return rows::halves_are(t, rest.numbers, rest.value as u16);
@@ -161,7 +161,7 @@ fn write(
     }
 }
 
-fn all(a: bool, b: bool, c: bool) -> bool
+pub fn all(a: bool, b: bool, c: bool) -> bool
     ensures { λ r. ⌜ r ≡ (a && (b && c)) ⌝ }
 {
     if a {
@@ -206,6 +206,9 @@ fn answer(
     text: &mut [u8],
 ) -> Answer {
     read(s, book, assumed, f);
+    if crate::kind(s, row) == crate::STATUS {
+        return crate::inquiry::answer(s, row, book, f, t, w, text);
+    }
     let outcome = ask(s, row, book, assumed, f, t, w);
     let cleared = rows::records_are(w, record_value(s, row, outcome));
     judge(s, row, book, f, t, outcome, cleared, text)
@@ -239,7 +242,7 @@ fn lend(
     )
 }
 
-// Runs a claim over slices full of junk. The work area is made here and lent from here on.
+// Runs a claim, or asks a status, over slices full of junk. The work area is made here and lent from here on.
 pub fn run(s: &[u8], row: usize, book: usize, text: &mut [u8]) -> Answer {
     let junk = crate::junk(s, row);
     let mut assumed = [0u16; MOST_ASSUMPTIONS];

@@ -1,4 +1,4 @@
--- `read_halves`: what is left to read is the same from the loop's place as from its start. The measure is how many are left. Assumes nothing.
+-- `read_halves`: what is left to read is the same from the loop's place as from its start. Assumes nothing.
 use Prim.Native.Nat.{ℕ, _-_, _≤_}
 use mathlib.Core.Path.{_≡_, refl, sym, ap, _∙_}
 use borrow.Author.Needs.{needs}
