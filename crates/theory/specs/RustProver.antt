@@ -1,5 +1,5 @@
--- The Rust's `prove/mod.rs` as a definition, line by line: each function of `Prover` with the Rust's lines above its own. The generator's idx
--- goes in and comes out of each, since `&mut self` shares it; `clone` and `boxed` copy and leave no trace. Assumes nothing.
+-- The Rust's `prove/mod.rs` as a definition, line by line: each function of `Prover` with the Rust's lines above its own. The generator's
+-- idx goes in and comes out of each, since `&mut self` shares it; `clone` and `boxed` copy and leave no trace. Assumes nothing.
 use Prim.Native.Nat.{ℕ, zero, suc}
 use mathlib.Core.Bool.{true, false}
 use mathlib.Core.Option.{Option, none, some}
@@ -13,8 +13,8 @@ use Rattle.theory.specs.RustTerm.{ProofTerm, Ident, Pair, ProjectFst, Pr
 use Rattle.theory.specs.RustTerm.{TypeAscription, UnitTerm, TypeJudgment, judgment, Sequent, withNewGoal, appendOrdered}
 use Rattle.theory.specs.RustTerm.{appendUnordered, remove, find}
 
--- what a call of the prover comes to: Some(term) or None with the generator's idx; a panic, when a name's power overflows; unended: the
--- bound on the depth of calls was too small, which says nothing of the Rust
+-- what a call of the prover comes to: Some(term) or None with the generator's idx; a panic, where a name's power overflows or the assertion
+-- fails; unended: the bound on the depth of calls was too small, which says nothing of the Rust
 pub data Returned : Type 0 where
   Some : ProofTerm → ℕ → Returned
   None : ℕ → Returned
@@ -149,8 +149,10 @@ module _ (forbidden : List (List ℕ)) where
   -- Prop::False => self.prove_left(sequent)
   handleImplLeft call proofTerm snd sequent idx bot = call byLeft sequent idx
   -- sequent.append_unordered(TypeJudgment::new(Prop::Impl(fst, snd), proof_term)); self.prove_left(sequent)
-  handleImplLeft call proofTerm snd sequent idx (leaf k y) = call byLeft (appendUnordered sequent (judgment (imp (leaf k y) snd) proofTerm)) idx
-  handleImplLeft call proofTerm snd sequent idx (imp a b) = call byLeft (appendUnordered sequent (judgment (imp (imp a b) snd) proofTerm)) idx
+  handleImplLeft call proofTerm snd sequent idx (leaf k y) =
+      call byLeft (appendUnordered sequent (judgment (imp (leaf k y) snd) proofTerm)) idx
+  handleImplLeft call proofTerm snd sequent idx (imp a b) =
+      call byLeft (appendUnordered sequent (judgment (imp (imp a b) snd) proofTerm)) idx
 
   -- fn prove_left(&mut self, mut sequent: Sequent): match &type_judgment.prop, of the type judgment that was popped off the sequent
   unfoldable pub matchPopped : Call → ProofTerm → Sequent → ℕ → Form → Returned
@@ -277,16 +279,21 @@ module _ (forbidden : List (List ℕ)) where
   implAtomRule call sequent idx [] = orRules forbidden call sequent idx (sequent .goal)
   implAtomRule call sequent idx (c ∷ cs) = call byLeft (changed (reverse (c ∷ cs)) sequent) idx
 
-  -- fn search(&mut self, sequent: Sequent): return Some(elem.proof_term.clone()), or the rules after the id rules
-  unfoldable pub search′ : Call → Sequent → ℕ → Option ProofTerm → Returned
-  search′ call sequent idx (some proofTerm) = Some proofTerm idx
-  search′ call sequent idx none = implAtomRule call sequent idx (changes (sequent .unorderedCtx) 0 (sequent .unorderedCtx))
+  -- return Some(elem.proof_term.clone()), or the rules after the id rules
+  unfoldable pub afterId : Call → Sequent → ℕ → Option ProofTerm → Returned
+  afterId call sequent idx (some proofTerm) = Some proofTerm idx
+  afterId call sequent idx none = implAtomRule call sequent idx (changes (sequent .unorderedCtx) 0 (sequent .unorderedCtx))
+
+  -- fn search(&mut self, sequent: Sequent): assert!(sequent.ordered_ctx.is_empty(), "Do not search when ordered context is not empty.");
+  unfoldable pub search′ : Call → Sequent → ℕ → List TypeJudgment → Returned
+  search′ call sequent idx [] = afterId call sequent idx (idRule (sequent .unorderedCtx) (sequent .goal))
+  search′ call sequent idx (e ∷ es) = panicked
 
   -- one of the three functions
   unfoldable pub body : Call → Judgement → Sequent → ℕ → Returned
   body call byRight sequent idx = proveRight forbidden call sequent idx (sequent .goal)
   body call byLeft sequent idx = proveLeft forbidden call sequent idx (sequent .orderedCtx)
-  body call bySearch sequent idx = search′ call sequent idx (idRule (sequent .unorderedCtx) (sequent .goal))
+  body call bySearch sequent idx = search′ call sequent idx (sequent .orderedCtx)
 
   -- the number bounds the depth of calls
   unfoldable pub called : ℕ → Call
