@@ -73,6 +73,9 @@ module _ (names : List (List ℕ)) where
     pub inside : t < length (s .nodes)
     pub is : termAt s t ≡ T
 
+  pub itself : {s : State} {t : ℕ} → t < length (s .nodes) → Stands s t (termAt s t)
+  itself h = record { inside = h; is = refl }
+
   -- a grown state holds the same term, since nodes and formulas are only appended
   pub stands-grows : {s s′ : State} {t : ℕ} {T : ProofTerm} → Sane s → Grows s s′ → Stands s t T → Stands s′ t T
   unfolding termAt
