@@ -173,13 +173,17 @@ module _ (names : List (List ℕ)) where
     pub ordered : Mirror s (q .ordered) (Q .orderedCtx)
     pub goal : At (s .words) (q .goal) (Q .goal)
 
-  -- an answer from state s beside what the Rust returns from idx s .used: the same verdict, term and idx where no index past 363 is used
-  pub data Same (s : State) : Answer → Returned → Type 0 where
-    same-found : {t : ℕ} {s′ : State} {r : Returned} → Grows s s′ → t < length (s′ .nodes) →
-        (s′ .used ≤ 364 → r ≡ Some (termAt s′ t) (s′ .used)) → Same s (found t s′) r
-    same-failed : {u n : ℕ} {m : Tree} {r : Returned} → s .used ≤ u → (u ≤ 364 → r ≡ None u) → Same s (failed u n m) r
-    same-short : {l : Lack} {n : ℕ} {r : Returned} → Same s (short l n) r
-    same-unfinished : {r : Returned} → Same s unfinished r
+  -- an answer from state s on beside what the Rust returns, v indices being used before: the same verdict, term and idx where no index past
+  -- 363 is used
+  pub data SameFrom (s : State) (v : ℕ) : Answer → Returned → Type 0 where
+    same-found : {t : ℕ} {s′ : State} {r : Returned} → Grows s s′ → v ≤ s′ .used → t < length (s′ .nodes) →
+        (s′ .used ≤ 364 → r ≡ Some (termAt s′ t) (s′ .used)) → SameFrom s v (found t s′) r
+    same-failed : {u n : ℕ} {m : Tree} {r : Returned} → v ≤ u → (u ≤ 364 → r ≡ None u) → SameFrom s v (failed u n m) r
+    same-short : {l : Lack} {n : ℕ} {r : Returned} → SameFrom s v (short l n) r
+    same-unfinished : {r : Returned} → SameFrom s v unfinished r
+
+  abbrev pub Same : State → Answer → Returned → Type 0
+  Same s a r = SameFrom s (s .used) a r
 
   -- the assertion of the Rust's search
   abbrev pub Ready : Judgement → Rust.Sequent → Type 0
@@ -193,42 +197,54 @@ module _ (names : List (List ℕ)) where
       Same s (ask j q s) (call j Q (s .used))
 
   -- an answer from a grown state, where the Rust goes on likewise if no index past 363 was used so far
+  pub later-from : {s₀ s : State} {v v′ : ℕ} {a : Answer} {r r′ : Returned} → Grows s₀ s → v ≤ v′ → SameFrom s v′ a r →
+      (v′ ≤ 364 → r′ ≡ r) → SameFrom s₀ v a r′
+  later-from x y (same-found g h i p) f = same-found (grows-trans x g) (le-trans y h) i (λ l. f (le-trans h l) ∙ p l)
+  later-from x y (same-failed l p) f = same-failed (le-trans y l) (λ m. f (le-trans l m) ∙ p m)
+  later-from x y same-short f = same-short
+  later-from x y same-unfinished f = same-unfinished
+
   pub later : {s₀ s : State} {a : Answer} {r r′ : Returned} → Grows s₀ s → Same s a r → (s .used ≤ 364 → r′ ≡ r) → Same s₀ a r′
-  later x (same-found g i p) f = same-found (grows-trans x g) i (λ l. f (le-trans (g .used) l) ∙ p l)
-  later x (same-failed l p) f = same-failed (le-trans (x .used) l) (λ m. f (le-trans l m) ∙ p m)
-  later x same-short f = same-short
-  later x same-unfinished f = same-unfinished
+  later x h f = later-from x (x .used) h f
+
+  -- from the same state on, fewer indices being used before
+  from : {s : State} {v v′ : ℕ} {a : Answer} {r r′ : Returned} → SameFrom s v′ a r → v ≤ v′ → (v′ ≤ 364 → r′ ≡ r) → SameFrom s v a r′
+  from (same-found g h i p) y f = same-found g (le-trans y h) i (λ l. f (le-trans h l) ∙ p l)
+  from (same-failed l p) y f = same-failed (le-trans y l) (λ m. f (le-trans l m) ∙ p m)
+  from same-short y f = same-short
+  from same-unfinished y f = same-unfinished
 
   -- a premise, after which the rule goes on
   pub then-same : {s : State} {a : Answer} {r : Returned} (k : ℕ → State → Answer) (k′ : ProofTerm → ℕ → Returned) → Same s a r →
       ((t : ℕ) (s′ : State) → Grows s s′ → t < length (s′ .nodes) → Same s′ (k t s′) (k′ (termAt s′ t) (s′ .used))) →
       Same s (andThen a k) (question r k′)
   unfolding andThen question
-  then-same k k′ (same-found {t} {s′} g i p) f = later g (f t s′ g i) (λ l. ap (λ (r : Returned). question r k′) (p l))
+  then-same k k′ (same-found {t} {s′} g h i p) f = later-from g h (f t s′ g i) (λ l. ap (λ (r : Returned). question r k′) (p l))
   then-same k k′ (same-failed l p) f = same-failed l (λ m. ap (λ (r : Returned). question r k′) (p m))
   then-same k k′ same-short f = same-short
   then-same k k′ same-unfinished f = same-unfinished
 
-  -- a try, whose failure gives formulas and terms back to b
-  pub try-same : {s₀ s : State} {a : Answer} {r : Returned} (b : State) (k : ℕ → State → Answer) (o : Tree → State → Answer)
-      (k′ : ProofTerm → ℕ → Returned) (o′ : ℕ → Returned) → Grows s₀ s →
+  -- a try, whose failure gives formulas and terms back to b; the Rust may have made names before it
+  pub try-same : {s₀ s : State} {v : ℕ} {a : Answer} {r r′ : Returned} (b : State) (k : ℕ → State → Answer) (o : Tree → State → Answer)
+      (k′ : ProofTerm → ℕ → Returned) (o′ : ℕ → Returned) → Grows s₀ s → v ≤ s .used →
       ((u n : ℕ) → s₀ .used ≤ u → Grows s₀ (restart b u n)) → Same s a r →
-      ((t : ℕ) (s′ : State) → Grows s s′ → t < length (s′ .nodes) → Same s′ (k t s′) (k′ (termAt s′ t) (s′ .used))) →
+      ((t : ℕ) (s′ : State) → Grows s s′ → t < length (s′ .nodes) → SameFrom s₀ (s′ .used) (k t s′) (k′ (termAt s′ t) (s′ .used))) →
       ((m : Tree) (u n : ℕ) → s₀ .used ≤ u → Same (restart b u n) (o m (restart b u n)) (o′ u)) →
-      Same s₀ (attempt b a k o) (ifLetSome r k′ o′)
+      (s .used ≤ 364 → r′ ≡ ifLetSome r k′ o′) → SameFrom s₀ v (attempt b a k o) r′
   unfolding attempt ifLetSome
-  try-same b k o k′ o′ x back (same-found {t} {s′} g i p) f h =
-      later (grows-trans x g) (f t s′ g i) (λ l. ap (λ (r : Returned). ifLetSome r k′ o′) (p l))
-  try-same b k o k′ o′ x back (same-failed {u} {n} {m} l p) f h =
-      later (back u n (le-trans (x .used) l)) (h m u n (le-trans (x .used) l)) (λ v. ap (λ (r : Returned). ifLetSome r k′ o′) (p v))
-  try-same b k o k′ o′ x back same-short f h = same-short
-  try-same b k o k′ o′ x back same-unfinished f h = same-unfinished
+  try-same b k o k′ o′ x y back (same-found {t} {s′} g h i p) f other e =
+      from (f t s′ g i) (le-trans y h) (λ l. e (le-trans h l) ∙ ap (λ (r : Returned). ifLetSome r k′ o′) (p l))
+  try-same b k o k′ o′ x y back (same-failed {u} {n} {m} l p) f other e =
+      later-from (back u n (le-trans (x .used) l)) (le-trans y l) (other m u n (le-trans (x .used) l))
+      (λ v. e (le-trans l v) ∙ ap (λ (r : Returned). ifLetSome r k′ o′) (p v))
+  try-same b k o k′ o′ x y back same-short f other e = same-short
+  try-same b k o k′ o′ x y back same-unfinished f other e = same-unfinished
 
   -- a charge, and the end of a rule
-  pub charge-same : {s₀ : State} {r : Returned} (L : Limits) (u : ℕ) (vs : Book) (ns : List Node) (q : Sequent) (s : State)
-      (k : State → Answer) → Same s₀ (k (made s u vs ns)) r → Same s₀ (charge L u vs ns q s k) r
-  charge-same {s₀} {r} L u vs ns q s k h =
-      at-charge L (λ a b. Same s₀ a r) u vs ns q s k k (λ l n. same-short) (λ p. h)
+  pub charge-same : {s₀ : State} {v : ℕ} {r : Returned} (L : Limits) (u : ℕ) (vs : Book) (ns : List Node) (q : Sequent) (s : State)
+      (k : State → Answer) → SameFrom s₀ v (k (made s u vs ns)) r → SameFrom s₀ v (charge L u vs ns q s k) r
+  charge-same {s₀} {v} {r} L u vs ns q s k h =
+      at-charge L (λ a b. SameFrom s₀ v a r) u vs ns q s k k (λ l n. same-short) (λ p. h)
 
   pub end-same : (L : Limits) (n : Node) (s : State) {T : ProofTerm} → Sane s → NodeIn (length (s .words)) (length (s .nodes)) (n .piece) →
       ((s₁ : State) → Grows s s₁ → Read s₁ (length (s .nodes)) (n .piece) → Stands s₁ (length (s .nodes)) T) →
@@ -236,7 +252,7 @@ module _ (names : List (List ℕ)) where
   unfolding close
   end-same L n s {T} sane h f =
       at-nodes L (λ a b. Same s a (Some T (s .used))) (n ∷ []) s _ (λ s₁. found (length (s .nodes)) s₁) same-short
-      (λ p. same-found g (d .inside) (λ l. ap (λ (X : ProofTerm). Some X (s .used)) (sym (d .is))))
+      (λ p. same-found g (le-refl (s .used)) (d .inside) (λ l. ap (λ (X : ProofTerm). Some X (s .used)) (sym (d .is))))
     where
       s₁ : State
       s₁ = noded s (n ∷ [])
