@@ -66,7 +66,7 @@ name-alike taken i k h = loop-alike taken (length taken) i k (fresh-free taken i
 
 module _ (names : List (List ℕ)) where
   -- the Rust's term at node t of a state, and node t holding the Rust's term T
-  pub termAt : State → ℕ → ProofTerm
+  unfoldable pub termAt : State → ℕ → ProofTerm
   termAt s t = named names (term (s .words) (s .nodes) t)
 
   pub record Stands (s : State) (t : ℕ) (T : ProofTerm) : Type 0 where
