@@ -21,7 +21,7 @@ use Rattle.theory.proofs.Derive.{fresh-above, Sane, Grows, grows-refl, 
 use Rattle.theory.proofs.Charges.{made}
 use Rattle.theory.proofs.Knows.{made-grows, made-nodes, read-new}
 use Rattle.theory.proofs.NamesApart.{made-bytes}
-use Rattle.theory.proofs.RustSame.{name-alike, termAt, Stands, stands-grows, itself, stands-ident, stands-unit, stands-pair, stands-fst}
+use Rattle.theory.proofs.RustSame.{follows-eq, follows-trans, name-follows, termAt, Stands, stands-grows, itself, stands-ident, stands-unit, stands-pair, stands-fst}
 use Rattle.theory.proofs.RustSame.{stands-snd, stands-fn, stands-app, stands-inl, stands-inr, stands-case, stands-abort, stands-asc}
 use Rattle.theory.proofs.RustSame.{Mirrors, Mirror, mirror-none, mirror-more, mirror-grows, mirror-append, Shows, Same, Agrees, later}
 use Rattle.theory.proofs.RustSame.{then-same, charge-same, end-same}
@@ -68,8 +68,8 @@ module _ (L : Limits) (taken names : List (List ℕ)) (ask : Ask Answer) (call :
         end-same names L (node rightAnd (pair t v)) s₄ (y₄ .sane) (d₂ .inside, i₄)
         (λ s₅ y₅ r. stands-pair names (y₅ .sane) r (stands-grows names (y₄ .sane) y₅ d₂)
         (stands-grows names (y₄ .sane) y₅ (itself names i₄)))))
-        (λ l. refl))))
-        (λ l. refl))
+        (follows-eq refl))))
+        (follows-eq refl))
     right-same (isImp a c) b g =
         let x : ℕ = fresh taken (s .used) in
         let ns : List Node = by rightImpl (ident (name x) ∷ []) in
@@ -88,7 +88,7 @@ module _ (L : Limits) (taken names : List (List ℕ)) (ask : Ask Answer) (call :
         }) tt)
         (λ t s₂ g₂ i₂. end-same names L (node rightImpl (fn (name x) t)) s₂ (g₂ .sane) i₂
         (λ s₃ g₃ r. stands-fn names (g₃ .sane) r (made-bytes names x) (stands-grows names (g₂ .sane) g₃ (itself names i₂)))))
-        (λ l. name-alike taken (s .used) _ l))
+        (name-follows taken (s .used) _))
 
     module _ (G : Form) (goal : At (s .words) (q .goal) G) (e : Entry) (os : List Entry) (T : ProofTerm) (O₁ : List TypeJudgment)
         (ko : Mirror names s os O₁) where
@@ -117,7 +117,7 @@ module _ (L : Limits) (taken names : List (List ℕ)) (ask : Ask Answer) (call :
             ordered = mirror-more (record { formula = at-ext (y .words) (at-form (s .words) c i); proof = d₁ })
                 (mirror-grows names sane y ko);
             goal = at-ext (y .words) goal;
-          }) tt) (λ l. refl))
+          }) tt) (follows-eq refl))
       impl-same a c isBot h i k = agrees byLeft _ s _ sane (record { unordered = un; ordered = ko; goal = goal }) tt
       impl-same a c (isLeaf l z) h i k = agrees byLeft _ s _ sane
           (record { unordered = mirror-append names un (mirror-more k mirror-none); ordered = ko; goal = goal }) tt
@@ -154,7 +154,7 @@ module _ (L : Limits) (taken names : List (List ℕ)) (ask : Ask Answer) (call :
             unordered = mirror-grows names sane g un;
             ordered = mirror-more (record { formula = at₂; proof = d₆ }) (mirror-grows names sane g ko);
             goal = at-ext (g .words) goal;
-          }) tt) (λ m. name-alike taken (s .used) _ (omega (arith, m, ay)) ∙ name-alike taken (suc x) _ m))
+          }) tt) (follows-trans (le-trans ay (le-suc y)) (name-follows taken (s .used) _) (name-follows taken (suc x) _)))
       impl-same a c (isOr l r) h i k =
           let ws : Book = s .words in
           let n : ℕ = length (s .nodes) in
@@ -191,7 +191,7 @@ module _ (L : Limits) (taken names : List (List ℕ)) (ask : Ask Answer) (call :
             ordered = mirror-more (record { formula = at₂; proof = d₉ })
                 (mirror-more (record { formula = at₁; proof = d₄ }) (mirror-grows names sane g ko));
             goal = at-ext (g .words) goal;
-          }) tt) (λ m. name-alike taken (s .used) _ (omega (arith, m, ay)) ∙ name-alike taken (suc x) _ m))
+          }) tt) (follows-trans (le-trans ay (le-suc y)) (name-follows taken (s .used) _) (name-follows taken (suc x) _)))
 
       -- left, by the shape of the popped record's formula
       left-same : (sh : Shape) → Below (length (s .words)) sh → Mirrors names s e (judgment (treeOf (trees (s .words)) sh) T) →
@@ -220,7 +220,7 @@ module _ (L : Limits) (taken names : List (List ℕ)) (ask : Ask Answer) (call :
                 (mirror-more (record { formula = at-ext (y .words) (at-form (s .words) a (h .0)); proof = d₀ })
                 (mirror-grows names sane y ko));
             goal = at-ext (y .words) goal;
-          }) tt) (λ l. refl))
+          }) tt) (follows-eq refl))
       left-same (isOr a b) h k =
           let x : ℕ = fresh taken (s .used) in
           let ns₁ : List Node = by leftOr (ident (name x) ∷ []) in
@@ -260,8 +260,8 @@ module _ (L : Limits) (taken names : List (List ℕ)) (ask : Ask Answer) (call :
           end-same names L (node leftOr (case (e .proof) (name x) t (name y) v)) s₄ (g₄ .sane) (de .inside, dt .inside, i₄)
           (λ s₅ g₅ r. stands-case names (g₅ .sane) r (made-bytes names x) (made-bytes names y) (stands-grows names (g₄ .sane) g₅ de)
           (stands-grows names (g₄ .sane) g₅ dt) (stands-grows names (g₄ .sane) g₅ (itself names i₄)))))
-          (λ l. name-alike taken (s₂ .used) _ l))))
-          (λ l. name-alike taken (s .used) _ l))
+          (name-follows taken (s₂ .used) _))))
+          (name-follows taken (s .used) _))
       left-same (isImp a c) h k =
           subst (λ (X : Form). Same names s (onImpl (limited L) taken ask q s e os a c (look (s .words) a))
           (handleImplLeft taken call T (form (s .words) c) popped (s .used) X)) (sym (form-at (s .words) (sane .words) a (h .0)))

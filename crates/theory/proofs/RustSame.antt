@@ -1,11 +1,12 @@
 -- The search beside the Rust's: nodes beside terms with names as bytes, records beside type judgments, answers beside what is returned; and
--- that charges, premises, tries and names keep them side by side as long as no index passes 363. Assumes nothing.
+-- that charges, premises, tries and names keep them side by side: past index 363 the Rust panics. Assumes nothing.
 use Prim.Native.Nat.{ℕ, zero, suc, _≤_, _<_}
 use mathlib.Core.Path.{_≡_, refl, sym, ap, ap₂, _∙_, subst}
 use mathlib.Core.Bool.{Bool, true, false}
 use mathlib.Core.Option.{Option, none, some}
 use mathlib.Core.List.{List, [], _∷_, _++_, append-nil}
-use native.Mathlib.Nat.{le-refl, le-trans, zero-add}
+use native.Mathlib.Nat.{le-refl, le-trans, zero-add, le-of-suc-le-suc}
+use native.Mathlib.Decide.{decLe}
 use native.Mathlib.Omega.{arith}
 use lib.ListN.{length, length-append}
 use Rattle.theory.specs.Form.{Form, Book, form}
@@ -25,20 +26,44 @@ use Rattle.theory.proofs.Terms.{term-keeps, term-book, nodes-more, node
 use Rattle.theory.proofs.Derive.{Sane, Grows, grows-refl, grows-trans, Read, read-term, skip-above}
 use Rattle.theory.proofs.Charges.{made, noded, restart, at-charge, at-nodes}
 use Rattle.theory.proofs.Naming.{fresh-free}
-use Rattle.theory.proofs.RustSpelling.{spells-alike}
+use Rattle.theory.proofs.RustSpelling.{spells-alike, panics-at}
 
--- one turn of the loop over forbidden names, at an index that is at most 363
+-- the Rust's r′ at idx v comes to r at idx v′: where no index past 363 was used on the way it goes on as r, and else it panics
+pub record Follows (v v′ : ℕ) (r′ r : Returned) : Type 0 where
+  pub on : v′ ≤ 364 → r′ ≡ r
+  pub over : v ≤ 364 → 364 < v′ → r′ ≡ panicked
+
+pub follows-eq : {v : ℕ} {r′ r : Returned} → r′ ≡ r → Follows v v r′ r
+follows-eq p = record { on = λ h. p; over = λ h l. absurd (let z : ⊥ = omega arith in z) }
+
+pub follows-trans : {v v′ v″ : ℕ} {a b c : Returned} → v′ ≤ v″ → Follows v v′ a b → Follows v′ v″ b c → Follows v v″ a c
+follows-trans {v} {v′} {v″} {a} l f g = record { on = λ h. f .on (le-trans l h) ∙ g .on h; over = λ h m. go (decLe v′ 364) h m }
+  where
+    go : Dec (v′ ≤ 364) → v ≤ 364 → 364 < v″ → a ≡ panicked
+    go (yes k) h m = f .on k ∙ g .over k m
+    go (no n) h m = f .over h (let k : 364 < v′ = omega arith in k)
+
+-- what goes on after a call goes on likewise, where it hands a panic on
+pub follows-ap : (k : Returned → Returned) → k panicked ≡ panicked → {v v′ : ℕ} {r′ r : Returned} → Follows v v′ r′ r →
+    Follows v v′ (k r′) (k r)
+follows-ap k e f = record { on = λ h. ap k (f .on h); over = λ h l. ap k (f .over h l) ∙ e }
+
+-- one turn of the loop over forbidden names: index 363 at most is spelled, and index 364 panics
 after-turn : (taken : List (List ℕ)) (n i : ℕ) (k : List ℕ → ℕ → Returned) → Bool → Returned
 after-turn taken n i k b = elim b [ true ↦ generated taken n (suc i) k | false ↦ k (spell i) (suc i) ]
 
+turn-out : (taken : List (List ℕ)) (n i : ℕ) (k : List ℕ → ℕ → Returned) → Option (List ℕ) → Returned
+turn-out taken n i k o =
+    elim o [ none ↦ panicked | some x ↦ elim (among x taken) [ true ↦ generated taken n (suc i) k | false ↦ k x (suc i) ] ]
+
 turn : (taken : List (List ℕ)) (n i : ℕ) (k : List ℕ → ℕ → Returned) → i < 364 →
     generated taken (suc n) i k ≡ after-turn taken n i k (among (spell i) taken)
-unfolding generated after-turn
-turn taken n i k h = ap out (spells-alike i h)
-  where
-    out : Option (List ℕ) → Returned
-    out o =
-        elim o [ none ↦ panicked | some x ↦ elim (among x taken) [ true ↦ generated taken n (suc i) k | false ↦ k x (suc i) ] ]
+unfolding generated after-turn turn-out
+turn taken n i k h = ap (turn-out taken n i k) (spells-alike i h)
+
+last-turn : (taken : List (List ℕ)) (n i : ℕ) (k : List ℕ → ℕ → Returned) → i ≡ 364 → generated taken (suc n) i k ≡ panicked
+unfolding generated turn-out
+last-turn taken n i k p = ap (turn-out taken n i k) (ap generate p ∙ panics-at)
 
 -- the loop gives the first index that is not skipped, if that is at most 363
 loop-alike : (taken : List (List ℕ)) (n i : ℕ) (k : List ℕ → ℕ → Returned) → among (spell (skip n taken i)) taken ≡ false →
@@ -59,10 +84,30 @@ loop-alike taken (suc n) i k f h =
     go true f h ih = ih f h
     go false f h ih = refl
 
-pub name-alike : (taken : List (List ℕ)) (i : ℕ) (k : List ℕ → ℕ → Returned) → fresh taken i < 364 →
-    generateIdentifier taken i k ≡ k (spell (fresh taken i)) (suc (fresh taken i))
+-- else it comes to index 364 and panics
+loop-panics : (taken : List (List ℕ)) (n i : ℕ) (k : List ℕ → ℕ → Returned) → i ≤ 364 → 364 ≤ skip n taken i →
+    generated taken (suc n) i k ≡ panicked
+unfolding skip after-turn
+loop-panics taken zero i k l h = last-turn taken zero i k (let p : i ≡ 364 = omega arith in p)
+loop-panics taken (suc n) i k l h = start (decLe 364 i)
+    (λ m. turn taken (suc n) i k m ∙ go (among (spell i) taken) m h (loop-panics taken n (suc i) k m))
+  where
+    start : Dec (364 ≤ i) → (i < 364 → generated taken (suc (suc n)) i k ≡ panicked) → generated taken (suc (suc n)) i k ≡ panicked
+    start (yes m) f = last-turn taken (suc n) i k (let p : i ≡ 364 = omega arith in p)
+    start (no m) f = f (let p : i < 364 = omega arith in p)
+
+    go : (b : Bool) → i < 364 → 364 ≤ elim b as (λ z. ℕ) [ true ↦ skip n taken (suc i) | false ↦ i ] →
+        (364 ≤ skip n taken (suc i) → generated taken (suc n) (suc i) k ≡ panicked) → after-turn taken (suc n) i k b ≡ panicked
+    go true m h ih = ih h
+    go false m h ih = absurd (let z : ⊥ = omega arith in z)
+
+pub name-follows : (taken : List (List ℕ)) (i : ℕ) (k : List ℕ → ℕ → Returned) →
+    Follows i (suc (fresh taken i)) (generateIdentifier taken i k) (k (spell (fresh taken i)) (suc (fresh taken i)))
 unfolding generateIdentifier fresh
-name-alike taken i k h = loop-alike taken (length taken) i k (fresh-free taken i) h
+name-follows taken i k = record {
+  on = λ h. loop-alike taken (length taken) i k (fresh-free taken i) h;
+  over = λ h l. loop-panics taken (length taken) i k h (le-of-suc-le-suc l);
+}
 
 module _ (names : List (List ℕ)) where
   -- the Rust's term at node t of a state, and node t holding the Rust's term T
@@ -173,12 +218,11 @@ module _ (names : List (List ℕ)) where
     pub ordered : Mirror s (q .ordered) (Q .orderedCtx)
     pub goal : At (s .words) (q .goal) (Q .goal)
 
-  -- an answer from state s on beside what the Rust returns, v indices being used before: the same verdict, term and idx where no index past
-  -- 363 is used
+  -- an answer from state s on beside what the Rust returns, v indices being used before: the same verdict, term and idx
   pub data SameFrom (s : State) (v : ℕ) : Answer → Returned → Type 0 where
     same-found : {t : ℕ} {s′ : State} {r : Returned} → Grows s s′ → v ≤ s′ .used → t < length (s′ .nodes) →
-        (s′ .used ≤ 364 → r ≡ Some (termAt s′ t) (s′ .used)) → SameFrom s v (found t s′) r
-    same-failed : {u n : ℕ} {m : Tree} {r : Returned} → v ≤ u → (u ≤ 364 → r ≡ None u) → SameFrom s v (failed u n m) r
+        Follows v (s′ .used) r (Some (termAt s′ t) (s′ .used)) → SameFrom s v (found t s′) r
+    same-failed : {u n : ℕ} {m : Tree} {r : Returned} → v ≤ u → Follows v u r (None u) → SameFrom s v (failed u n m) r
     same-short : {l : Lack} {n : ℕ} {r : Returned} → SameFrom s v (short l n) r
     same-unfinished : {r : Returned} → SameFrom s v unfinished r
 
@@ -196,21 +240,20 @@ module _ (names : List (List ℕ)) where
   Agrees ask call = (j : Judgement) (q : Sequent) (s : State) (Q : Rust.Sequent) → Sane s → Shows s q Q → Ready j Q →
       Same s (ask j q s) (call j Q (s .used))
 
-  -- an answer from a grown state, where the Rust goes on likewise if no index past 363 was used so far
+  -- an answer from a grown state, to which the Rust comes too; and from the same state, fewer indices being used before
   pub later-from : {s₀ s : State} {v v′ : ℕ} {a : Answer} {r r′ : Returned} → Grows s₀ s → v ≤ v′ → SameFrom s v′ a r →
-      (v′ ≤ 364 → r′ ≡ r) → SameFrom s₀ v a r′
-  later-from x y (same-found g h i p) f = same-found (grows-trans x g) (le-trans y h) i (λ l. f (le-trans h l) ∙ p l)
-  later-from x y (same-failed l p) f = same-failed (le-trans y l) (λ m. f (le-trans l m) ∙ p m)
+      Follows v v′ r′ r → SameFrom s₀ v a r′
+  later-from x y (same-found g h i p) f = same-found (grows-trans x g) (le-trans y h) i (follows-trans h f p)
+  later-from x y (same-failed l p) f = same-failed (le-trans y l) (follows-trans l f p)
   later-from x y same-short f = same-short
   later-from x y same-unfinished f = same-unfinished
 
-  pub later : {s₀ s : State} {a : Answer} {r r′ : Returned} → Grows s₀ s → Same s a r → (s .used ≤ 364 → r′ ≡ r) → Same s₀ a r′
+  pub later : {s₀ s : State} {a : Answer} {r r′ : Returned} → Grows s₀ s → Same s a r → Follows (s₀ .used) (s .used) r′ r → Same s₀ a r′
   later x h f = later-from x (x .used) h f
 
-  -- from the same state on, fewer indices being used before
-  from : {s : State} {v v′ : ℕ} {a : Answer} {r r′ : Returned} → SameFrom s v′ a r → v ≤ v′ → (v′ ≤ 364 → r′ ≡ r) → SameFrom s v a r′
-  from (same-found g h i p) y f = same-found g (le-trans y h) i (λ l. f (le-trans h l) ∙ p l)
-  from (same-failed l p) y f = same-failed (le-trans y l) (λ m. f (le-trans l m) ∙ p m)
+  from : {s : State} {v v′ : ℕ} {a : Answer} {r r′ : Returned} → SameFrom s v′ a r → v ≤ v′ → Follows v v′ r′ r → SameFrom s v a r′
+  from (same-found g h i p) y f = same-found g (le-trans y h) i (follows-trans h f p)
+  from (same-failed l p) y f = same-failed (le-trans y l) (follows-trans l f p)
   from same-short y f = same-short
   from same-unfinished y f = same-unfinished
 
@@ -219,8 +262,8 @@ module _ (names : List (List ℕ)) where
       ((t : ℕ) (s′ : State) → Grows s s′ → t < length (s′ .nodes) → Same s′ (k t s′) (k′ (termAt s′ t) (s′ .used))) →
       Same s (andThen a k) (question r k′)
   unfolding andThen question
-  then-same k k′ (same-found {t} {s′} g h i p) f = later-from g h (f t s′ g i) (λ l. ap (λ (r : Returned). question r k′) (p l))
-  then-same k k′ (same-failed l p) f = same-failed l (λ m. ap (λ (r : Returned). question r k′) (p m))
+  then-same k k′ (same-found {t} {s′} g h i p) f = later-from g h (f t s′ g i) (follows-ap (λ (r : Returned). question r k′) refl p)
+  then-same k k′ (same-failed l p) f = same-failed l (follows-ap (λ (r : Returned). question r k′) refl p)
   then-same k k′ same-short f = same-short
   then-same k k′ same-unfinished f = same-unfinished
 
@@ -230,13 +273,13 @@ module _ (names : List (List ℕ)) where
       ((u n : ℕ) → s₀ .used ≤ u → Grows s₀ (restart b u n)) → Same s a r →
       ((t : ℕ) (s′ : State) → Grows s s′ → t < length (s′ .nodes) → SameFrom s₀ (s′ .used) (k t s′) (k′ (termAt s′ t) (s′ .used))) →
       ((m : Tree) (u n : ℕ) → s₀ .used ≤ u → Same (restart b u n) (o m (restart b u n)) (o′ u)) →
-      (s .used ≤ 364 → r′ ≡ ifLetSome r k′ o′) → SameFrom s₀ v (attempt b a k o) r′
+      Follows v (s .used) r′ (ifLetSome r k′ o′) → SameFrom s₀ v (attempt b a k o) r′
   unfolding attempt ifLetSome
   try-same b k o k′ o′ x y back (same-found {t} {s′} g h i p) f other e =
-      from (f t s′ g i) (le-trans y h) (λ l. e (le-trans h l) ∙ ap (λ (r : Returned). ifLetSome r k′ o′) (p l))
+      from (f t s′ g i) (le-trans y h) (follows-trans h e (follows-ap (λ (r : Returned). ifLetSome r k′ o′) refl p))
   try-same b k o k′ o′ x y back (same-failed {u} {n} {m} l p) f other e =
       later-from (back u n (le-trans (x .used) l)) (le-trans y l) (other m u n (le-trans (x .used) l))
-      (λ v. e (le-trans l v) ∙ ap (λ (r : Returned). ifLetSome r k′ o′) (p v))
+      (follows-trans l e (follows-ap (λ (r : Returned). ifLetSome r k′ o′) refl p))
   try-same b k o k′ o′ x y back same-short f other e = same-short
   try-same b k o k′ o′ x y back same-unfinished f other e = same-unfinished
 
@@ -252,7 +295,7 @@ module _ (names : List (List ℕ)) where
   unfolding close
   end-same L n s {T} sane h f =
       at-nodes L (λ a b. Same s a (Some T (s .used))) (n ∷ []) s _ (λ s₁. found (length (s .nodes)) s₁) same-short
-      (λ p. same-found g (le-refl (s .used)) (d .inside) (λ l. ap (λ (X : ProofTerm). Some X (s .used)) (sym (d .is))))
+      (λ p. same-found g (le-refl (s .used)) (d .inside) (follows-eq (ap (λ (X : ProofTerm). Some X (s .used)) (sym (d .is)))))
     where
       s₁ : State
       s₁ = noded s (n ∷ [])

@@ -3,7 +3,7 @@ use Prim.Native.Nat.{ℕ, zero, suc, _+_, _≤_, _<_}
 use mathlib.Core.Path.{_≡_, refl, sym, ap, _∙_, subst}
 use mathlib.Core.Option.{Option, none, some}
 use mathlib.Core.List.{List, [], _∷_, _++_, append-nil, append-assoc, reverse}
-use native.Mathlib.Nat.{le-trans, le-refl}
+use native.Mathlib.Nat.{le-trans, le-refl, le-suc}
 use native.Mathlib.Omega.{arith}
 use lib.ListN.{length}
 use Rattle.theory.specs.Form.{Form, imp, Shape, isTop, isBot, isLeaf, isAnd, isOr, isImp, Book, look, treeOf, trees, form, Below, Good}
@@ -24,7 +24,7 @@ use Rattle.theory.proofs.Fire.{nests-at}
 use Rattle.theory.proofs.Tests.{some-none}
 use Rattle.theory.proofs.Knows.{made-grows, made-nodes, read-new}
 use Rattle.theory.proofs.NamesApart.{made-bytes}
-use Rattle.theory.proofs.RustSame.{name-alike, Stands, stands-grows, itself, stands-ident, stands-fn, stands-app, stands-inl}
+use Rattle.theory.proofs.RustSame.{follows-eq, follows-trans, name-follows, Stands, stands-grows, itself, stands-ident, stands-fn, stands-app, stands-inl}
 use Rattle.theory.proofs.RustSame.{stands-inr, stands-asc, Mirrors, Mirror, mirror-none, mirror-more, mirror-grows, mirror-append}
 use Rattle.theory.proofs.RustSame.{Shows, Same, same-found, same-failed, same-short, same-unfinished, Ready, Agrees, later, try-same}
 use Rattle.theory.proofs.RustSame.{later-from, charge-same, end-same}
@@ -88,9 +88,9 @@ module _ (L : Limits) (taken names : List (List ℕ)) (ask : Ask Answer) (call :
           let p : j .prop ≡ treeOf (trees (w .words)) (look (w .words) (e .formula)) =
           sym (ke .formula .tree) ∙ form-at (w .words) (sane .words) (e .formula) i in
           later names (again-grows u n u n (le-refl u)) (more m u n l)
-          (λ v. ap (implRule taken call (j .proofTerm) without next′ u) p
+          (follows-eq (ap (implRule taken call (j .proofTerm) without next′ u) p
           ∙ no-nest taken call (j .proofTerm) without next′ u (w .words) (sane .words) (look (w .words) (e .formula))
-          (good-at (w .words) (sane .words) (e .formula) i) h)
+          (good-at (w .words) (sane .words) (e .formula) i) h))
       at-same m u n₀ l (some i) h =
           let ws : Book = w .words in
           let v = nests-at ws (sane .words) (ke .formula) i h in
@@ -139,19 +139,19 @@ module _ (L : Limits) (taken names : List (List ℕ)) (ask : Ask Answer) (call :
             ordered = mirror-more (record { formula = at-ext (h₃ .words) (v .at-end); proof = d₅ }) mirror-none;
             goal = at-ext (h₃ .words) goal;
           }) tt)
-          (λ t₄ s₄ g₄ i₄. same-found (grows-trans g₀ (grows-trans g₂ (grows-trans g₃ g₄))) (le-refl (s₄ .used)) i₄ (λ z. refl))
+          (λ t₄ s₄ g₄ i₄. same-found (grows-trans g₀ (grows-trans g₂ (grows-trans g₃ g₄))) (le-refl (s₄ .used)) i₄ (follows-eq refl))
           (λ k u′ n′ l′. more _ u′ n′ (le-trans l l′))
-          (λ z. refl)))
+          (follows-eq refl)))
           (λ k u′ n′ l′. more _ u′ n′ (le-trans l l′))
-          (λ z. ap (implRule taken call (j .proofTerm) without next′ u) (v .is)
-          ∙ name-alike taken u _ (omega (arith, z, ay)) ∙ name-alike taken (suc x) _ z))
+          (follows-trans (omega arith) (follows-eq (ap (implRule taken call (j .proofTerm) without next′ u) (v .is)))
+          (follows-trans (le-trans ay (le-suc y)) (name-follows taken u _) (name-follows taken (suc x) _))))
 
     -- the positions one by one
     positions-same : {before rest : List Entry} {B R : List TypeJudgment} (i : ℕ) → Mirror names w before B → Mirror names w rest R →
         U ≡ B ++ R → i ≡ length B → (m : Seen) (u n : ℕ) → w .used ≤ u →
         Same names (restart w u n) (positions (limited L) taken ask q before rest m (restart w u n)) (implRules taken call Q i R u)
     unfolding positions fail implRules
-    positions-same i kb mirror-none p c m u n l = same-failed (le-refl u) (λ v. refl)
+    positions-same i kb mirror-none p c m u n l = same-failed (le-refl u) (follows-eq refl)
     positions-same {before} {rest} {B} i kb (mirror-more {e} {es} {j} {js} k r) p c m u n l =
         subst (λ (us : List TypeJudgment). Same names (restart w u n)
         (positions (limited L) taken ask q before (e ∷ es) m (restart w u n))
@@ -183,7 +183,7 @@ module _ (L : Limits) (taken names : List (List ℕ)) (ask : Ask Answer) (call :
         }) tt)
         (λ t s₂ g₂ i₂. later-from names (grows-trans g₁ g₂) (le-refl (s₂ .used))
         (end-same names L (node search3 (inl t)) s₂ (g₂ .sane) i₂
-        (λ s₃ g₃ r. stands-inl names (g₃ .sane) r (stands-grows names (g₂ .sane) g₃ (itself names i₂)))) (λ z. refl))
+        (λ s₃ g₃ r. stands-inl names (g₃ .sane) r (stands-grows names (g₂ .sane) g₃ (itself names i₂)))) (follows-eq refl))
         (λ k u n l.
         let s₂ : State = restart w u n in
         let g₃ : Grows s₂ (made s₂ u [] []) = made-nodes s₂ u [] (again u n) (le-refl u) tt in
@@ -197,10 +197,10 @@ module _ (L : Limits) (taken names : List (List ℕ)) (ask : Ask Answer) (call :
         }) tt)
         (λ t s₄ g₄ i₄. later-from names (grows-trans g₃ g₄) (le-refl (s₄ .used))
         (end-same names L (node search3 (inr t)) s₄ (g₄ .sane) i₄
-        (λ s₅ g₅ r. stands-inr names (g₅ .sane) r (stands-grows names (g₄ .sane) g₅ (itself names i₄)))) (λ z. refl))
+        (λ s₅ g₅ r. stands-inr names (g₅ .sane) r (stands-grows names (g₄ .sane) g₅ (itself names i₄)))) (follows-eq refl))
         (λ k₄ u₄ n₄ l₄. positions-same 0 mirror-none un refl refl _ u₄ n₄ (le-trans l l₄))
-        (λ z. refl)))
-        (λ z. refl))
+        (follows-eq refl)))
+        (follows-eq refl))
 
     -- rule 2, or rule 3 where nothing fires
     fire-same : {es : List Entry} {cs : List (ℕ × TypeJudgment)} → Both es cs → changes U 0 U ≡ cs →
@@ -223,8 +223,8 @@ module _ (L : Limits) (taken names : List (List ℕ)) (ask : Ask Answer) (call :
           ordered = f .new s₁ g (λ j h. read-new w (w .used) [] (r .nodes) (j + n) j refl h);
           goal = at-ext (g .words) goal;
         }) tt)
-        (λ z. ap (λ (x : List (ℕ × TypeJudgment)). call byLeft (changed (reverse x) Q) (w .used)) (sym p)
-        ∙ ap (λ (X : Rust.Sequent). call byLeft X (w .used)) (all-fall U G)))
+        (follows-eq (ap (λ (x : List (ℕ × TypeJudgment)). call byLeft (changed (reverse x) Q) (w .used)) (sym p)
+        ∙ ap (λ (X : Rust.Sequent). call byLeft X (w .used)) (all-fall U G))))
 
     rule2-same : Same names w (rule2 (limited L) taken ask q w) (implAtomRule taken call Q (w .used) (changes U 0 U))
     unfolding rule2
@@ -247,7 +247,8 @@ module _ (L : Limits) (taken names : List (List ℕ)) (ask : Ask Answer) (call :
             (afterId taken call Q (w .used) o′)
         go found-none = rule2-same
         go (found-some d) =
-            same-found (grows-refl w sane) (le-refl (w .used)) (d .inside) (λ l. ap (λ (X : ProofTerm). Some X (w .used)) (sym (d .is)))
+            same-found (grows-refl w sane) (le-refl (w .used)) (d .inside)
+            (follows-eq (ap (λ (X : ProofTerm). Some X (w .used)) (sym (d .is))))
 
     search-same : Same names w (onSearch (limited L) taken ask q w (look (w .words) (q .goal)))
         (body taken call bySearch Q (w .used))
@@ -290,7 +291,7 @@ run-same L taken names (suc d) j q s Q sane h n =
       unordered = mirror-grows names sane up (h .unordered);
       ordered = mirror-grows names sane up (h .ordered);
       goal = h .goal;
-    }) n) (λ l. refl))
+    }) n) (follows-eq refl))
   where
     up : Grows s (entered s)
     up = record {

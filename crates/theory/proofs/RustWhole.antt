@@ -1,30 +1,36 @@
--- The start beside the Rust's, and so the whole: where no index passes 363, verdict and named term are the Rust's. Assumes nothing.
+-- The start beside the Rust's, and so the whole: verdict and named term are the Rust's, or it panics past index 363. Assumes nothing.
 use Prim.Native.Nat.{ℕ, zero, suc, _+_, _≤_, _<_, zero-le, suc-le-suc}
 use mathlib.Core.Path.{_≡_, refl, sym, ap, ap₂, _∙_, subst}
+use mathlib.Core.Bool.{Bool, true, false}
 use mathlib.Core.Logic.{_≢_}
 use mathlib.Core.List.{List, [], _∷_, _++_, map, append-nil}
 use native.Mathlib.Nat.{le-of-suc-le-suc, not-suc-le-zero, zero-add, suc-inj}
 use native.Mathlib.Omega.{arith}
 use lib.ListN.{length, getD}
+use lib.Dec.{leb}
+use borrow.Author.Tests.{leb-true, leb-false}
 use Rattle.theory.specs.Form.{Form, Book, form, Good}
 use Rattle.theory.specs.Term.{blank, ident, term}
 use Rattle.theory.specs.Names.{reserved, skipped}
 use Rattle.theory.specs.World.{Tree}
-use Rattle.theory.specs.Meter.{limited, Limits, Entry, State, Answer, found, failed, unfinished, byRight}
+use Rattle.theory.specs.Meter.{fits, limited, boundless, Limits, Entry, State, Answer, found, failed, short, unfinished, byRight}
+use Rattle.theory.specs.Meter.{andThen, attempt, fail, lacking, charge, spend, enter}
+use Rattle.theory.specs.Log.{IsShort, is-short}
 use Rattle.theory.specs.Search.{entry, run, idents, pushed, first, given, whole, prove}
 use Rattle.theory.specs.Written.{AllIn, Answers}
 use Rattle.theory.specs.RustTerm as Rust
 use Rattle.theory.specs.RustTerm.{TypeJudgment, judgment}
-use Rattle.theory.specs.RustProver.{Returned, Some, None, called, assumed, proveWithAssumptions}
-use Rattle.theory.specs.RustCall.{named, Returns}
+use Rattle.theory.specs.RustProver.{Returned, Some, None, panicked, called, assumed, proveWithAssumptions}
+use Rattle.theory.specs.RustCall.{paired, Returns, unlessPast, inRust}
 use Rattle.theory.proofs.Forms.{At, at-form}
+use Rattle.theory.proofs.Alike.{Alike, alike}
 use Rattle.theory.proofs.Charges.{noded, at-nodes}
 use Rattle.theory.proofs.Depth.{one-reading}
 use Rattle.theory.proofs.Derive.{Sane}
 use Rattle.theory.proofs.Main.{idents-length, idents-at, idents-in}
 use Rattle.theory.proofs.NamesApart.{given-bytes}
-use Rattle.theory.proofs.RustSame.{termAt, Stands, stands-ident, Mirror, mirror-none, mirror-more, Same, SameFrom, same-found, same-failed}
-use Rattle.theory.proofs.RustSame.{same-short}
+use Rattle.theory.proofs.RustSame.{Follows, termAt, Stands, stands-ident, Mirror, mirror-none, mirror-more, SameFrom, same-found}
+use Rattle.theory.proofs.RustSame.{same-failed, same-short, same-unfinished}
 use Rattle.theory.proofs.RustSearch.{run-same}
 
 -- the Rust's loop over the assumptions pushes them on the ordered context
@@ -39,8 +45,8 @@ assumed-onto [] O G = refl
 assumed-onto (a ∷ as′) O G = assumed-onto as′ (judgment (a .1) (Rust.Ident (a .0)) ∷ O) G
 
 -- its forbidden names are the assumptions'
-names-of : (ns : List (List ℕ)) (As : List Form) → length ns ≡ length As → map (λ (a : List ℕ × Form). a .0) (named ns As) ≡ ns
-unfolding named
+names-of : (ns : List (List ℕ)) (As : List Form) → length ns ≡ length As → map (λ (a : List ℕ × Form). a .0) (paired ns As) ≡ ns
+unfolding paired
 names-of [] As p = refl
 names-of (n ∷ ns) [] p = absurd (let z : ⊥ = omega arith in z)
 names-of (n ∷ ns) (A ∷ As) p = ap (λ (ms : List (List ℕ)). n ∷ ms) (names-of ns As (suc-inj p))
@@ -53,6 +59,15 @@ skipped-names names = append-nil names
 map-length : (ws : Book) (hs : List ℕ) → length (map (form ws) hs) ≡ length hs
 map-length ws [] = refl
 map-length ws (a ∷ hs) = ap suc (map-length ws hs)
+
+-- what the Rust comes to from a new generator on
+past : {u : ℕ} {r r₀ : Returned} → Follows 0 u r r₀ → r ≡ unlessPast u r₀
+unfolding unlessPast
+past {u} {r} {r₀} f = go (leb u 364) refl
+  where
+    go : (b : Bool) → leb u 364 ≡ b → r ≡ elim b as (λ z. Returned) [ true ↦ r₀ | false ↦ panicked ]
+    go true p = f .on (leb-true u 364 p)
+    go false p = f .over zero-le (leb-false u 364 p)
 
 module _ (L : Limits) (names : List (List ℕ)) (ws : Book) (hs : List ℕ) (g : ℕ) (good : Good ws) (ins : AllIn ws hs)
     (in-g : g < length ws) (as-many : length names ≡ length hs) (few : length hs ≤ 64) where
@@ -81,8 +96,8 @@ module _ (L : Limits) (names : List (List ℕ)) (ws : Book) (hs : List ℕ) (g :
   -- the pushed records beside the pushed assumptions
   pushed-mirror : (ns : List (List ℕ)) (hs′ : List ℕ) (i : ℕ) {os : List Entry} {O : List TypeJudgment} → AllIn ws hs′ →
       length ns ≡ length hs′ → ((j : ℕ) → j < length hs′ → Stands names start (i + j) (Rust.Ident (getD ns j []))) →
-      Mirror names start os O → Mirror names start (pushed i hs′ os) (onto (named ns (map (form ws) hs′)) O)
-  unfolding pushed entry onto named
+      Mirror names start os O → Mirror names start (pushed i hs′ os) (onto (paired ns (map (form ws) hs′)) O)
+  unfolding pushed entry onto paired
   pushed-mirror [] [] i a p f r = r
   pushed-mirror [] (h ∷ hs′) i a p f r = absurd (let z : ⊥ = omega arith in z)
   pushed-mirror (n ∷ ns) [] i a p f r = absurd (let z : ⊥ = omega arith in z)
@@ -97,7 +112,7 @@ module _ (L : Limits) (names : List (List ℕ)) (ws : Book) (hs : List ℕ) (g :
 
   -- what the Rust is asked
   abbrev asks : ℕ → Returned
-  asks d = proveWithAssumptions d (form ws g) (named names (map (form ws) hs))
+  asks d = proveWithAssumptions d (form ws g) (paired names (map (form ws) hs))
 
   same-at : (d : ℕ) → SameFrom names start 0 (prove L names d ws hs g) (asks d)
   unfolding prove whole given first proveWithAssumptions start
@@ -108,9 +123,9 @@ module _ (L : Limits) (names : List (List ℕ)) (ws : Book) (hs : List ℕ) (g :
       (λ s. run (limited L) (skipped names) d byRight (first hs g) s) same-short
       (λ p. subst (λ (r : Returned). SameFrom names start 0 (run (limited L) (skipped names) d byRight (first hs g) start) r)
       (sym (ap₂ (λ (ns : List (List ℕ)) (Q : Rust.Sequent). called ns d byRight Q 0)
-      (names-of names As n ∙ sym (skipped-names names)) (assumed-onto (named names As) [] (form ws g))))
+      (names-of names As n ∙ sym (skipped-names names)) (assumed-onto (paired names As) [] (form ws g))))
       (run-same L (skipped names) names d byRight (first hs g) start
-      (record { unorderedCtx = []; orderedCtx = onto (named names As) []; goal = form ws g }) sane₀
+      (record { unorderedCtx = []; orderedCtx = onto (paired names As) []; goal = form ws g }) sane₀
       (record {
         unordered = mirror-none;
         ordered = pushed-mirror names hs 0 ins as-many
@@ -122,30 +137,71 @@ module _ (L : Limits) (names : List (List ℕ)) (ws : Book) (hs : List ℕ) (g :
   settled : {a : Answer} (x : Answers L names ws hs g a) (d : ℕ) → x .depth ≤ d → prove L names d ws hs g ≡ a
   settled x d h = sym (one-reading L names (x .depth) d h ws hs g (λ p. x .finished (sym (x .is) ∙ p))) ∙ x .is
 
-  -- found: the Rust returns the same term with the same names
-  pub found-same : {t : ℕ} {s : State} → Answers L names ws hs g (found t s) → s .used ≤ 364 →
-      Returns (form ws g) (named names (map (form ws) hs)) (Some (Rust.named names (term (s .words) (s .nodes) t)) (s .used))
-  unfolding termAt
-  found-same {t} {s} x l = record {
+  -- an answer that is no shortage is what the Rust returns
+  pub search-same : {a : Answer} → Answers L names ws hs g a → ¬ IsShort a →
+      Returns (form ws g) (paired names (map (form ws) hs)) (inRust names a)
+  unfolding inRust termAt
+  search-same {a} x n = record {
     depth = x .depth;
-    is = λ d h. go (subst (λ (a : Answer). SameFrom names start 0 a (asks d)) (settled x d h) (same-at d));
+    is = λ d h. go a n (x .finished) (subst (λ (b : Answer). SameFrom names start 0 b (asks d)) (settled x d h) (same-at d));
   }
     where
-      go : {r : Returned} → SameFrom names start 0 (found t s) r → r ≡ Some (Rust.named names (term (s .words) (s .nodes) t)) (s .used)
-      go (same-found g v i p) = p l
-
-  -- failed: the Rust returns None
-  pub failed-same : {u n : ℕ} {K : Tree} → Answers L names ws hs g (failed u n K) → u ≤ 364 →
-      Returns (form ws g) (named names (map (form ws) hs)) (None u)
-  failed-same {u} {n} {K} x l = record {
-    depth = x .depth;
-    is = λ d h. go (subst (λ (a : Answer). SameFrom names start 0 a (asks d)) (settled x d h) (same-at d));
-  }
-    where
-      go : {r : Returned} → SameFrom names start 0 (failed u n K) r → r ≡ None u
-      go (same-failed v p) = p l
+      go : (b : Answer) → ¬ IsShort b → b ≢ unfinished → {r : Returned} → SameFrom names start 0 b r → r ≡ inRust names b
+      go (found t s) n f (same-found g v i p) = past p
+      go (failed u m K) n f (same-failed v p) = past p
+      go (short l m) n f same-short = absurd (n is-short)
+      go unfinished n f same-unfinished = absurd (f refl)
 
 -- the Rust returns one thing only
 pub returns-one : {prop : Form} {as′ : List (List ℕ × Form)} {r r′ : Returned} → Returns prop as′ r → Returns prop as′ r′ → r ≡ r′
 returns-one x y =
     sym (x .is (x .depth + y .depth) (omega arith)) ∙ y .is (x .depth + y .depth) (omega arith)
+
+-- an answer that is a shortage
+abbrev Lacks : Answer → Type 0
+Lacks (found t s) = ⊥
+Lacks (failed u n m) = ⊥
+Lacks (short l n) = Unit {0}
+Lacks unfinished = ⊥
+
+lacks : {a : Answer} → IsShort a → Lacks a
+lacks is-short = tt
+
+-- without limits there is none
+premise-none : (a : Answer) (k : ℕ → State → Answer) → ¬ IsShort a → ((t : ℕ) (s : State) → ¬ IsShort (k t s)) → ¬ IsShort (andThen a k)
+unfolding andThen
+premise-none (found t s) k p h = h t s
+premise-none (failed u n m) k p h = p
+premise-none (short l n) k p h = p
+premise-none unfinished k p h = p
+
+try-none : (b : State) (a : Answer) (k : ℕ → State → Answer) (o : Tree → State → Answer) → ¬ IsShort a →
+    ((t : ℕ) (s : State) → ¬ IsShort (k t s)) → ((m : Tree) (s : State) → ¬ IsShort (o m s)) → ¬ IsShort (attempt b a k o)
+unfolding attempt
+try-none b (found t s) k o p h f = h t s
+try-none b (failed u n m) k o p h f = f m _
+try-none b (short l n) k o p h f = p
+try-none b unfinished k o p h f = p
+
+none-short : Alike (limited boundless) (limited boundless)
+unfolding enter charge lacking spend fits fail
+none-short = record {
+  Rel = λ a b. ¬ IsShort a;
+  Reached = λ s. Unit {0};
+  Asked = λ q. Unit {0};
+  fewer = λ q q′ l e i. tt;
+  on-found = λ t s r i. lacks i;
+  on-fail = λ m s r i. lacks i;
+  on-unfinished = λ i. lacks i;
+  on-step = λ s k k′ r h. h _ tt;
+  on-charge = λ u ws ns q s k k′ r v h. h _ tt tt;
+  on-nodes = λ ns s k k′ r h. h _ tt;
+  on-premise = λ x y k k′ p h. premise-none x k p (λ t s. h t s tt);
+  on-try = λ s x y k k′ o o′ r p h f. try-none s x k o p (λ t s. h t s tt) (λ m s. f m s tt);
+}
+
+pub never-short : (names : List (List ℕ)) (ws : Book) (hs : List ℕ) (g : ℕ) {a : Answer} → Answers boundless names ws hs g a → ¬ IsShort a
+unfolding none-short prove
+never-short names ws hs g {a} x =
+    subst (λ (b : Answer). ¬ IsShort b) (x .is)
+    (alike (limited boundless) (limited boundless) none-short (skipped names) ws hs g tt tt (x .depth))
