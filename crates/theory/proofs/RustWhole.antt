@@ -158,13 +158,13 @@ returns-one x y =
     sym (x .is (x .depth + y .depth) (omega arith)) ∙ y .is (x .depth + y .depth) (omega arith)
 
 -- an answer that is a shortage
-abbrev Lacks : Answer → Type 0
+abbrev pub Lacks : Answer → Type 0
 Lacks (found t s) = ⊥
 Lacks (failed u n m) = ⊥
 Lacks (short l n) = Unit {0}
 Lacks unfinished = ⊥
 
-lacks : {a : Answer} → IsShort a → Lacks a
+pub lacks : {a : Answer} → IsShort a → Lacks a
 lacks is-short = tt
 
 -- without limits there is none

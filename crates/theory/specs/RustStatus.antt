@@ -15,23 +15,26 @@ isSome (None idx) k = k false
 isSome panicked k = none
 isSome unended k = none
 
--- let get_prop_solvable_status = |prop: &Prop|; `has_quantifiers` and `has_free_parameters`, whose file is not given, are openForm
+-- if negative_solvable { return VerificationResultSolvableStatus::Unsolvable; } VerificationResultSolvableStatus::Unknown
+unfoldable pub byNegative : Bool → Option Verdict
+byNegative true = some Unsolvable
+byNegative false = some Unknown
+
+-- if !prop.has_quantifiers() && !prop.has_free_parameters() { return VerificationResultSolvableStatus::Unsolvable; }
+-- let negative_solvable = prove(&Prop::Impl(prop.boxed(), Prop::False.boxed())).is_some();
+unfoldable pub notSolvable : ℕ → Form → Bool → Option Verdict
+notSolvable depth prop false = some Unsolvable
+notSolvable depth prop true = isSome (proveWithAssumptions depth (imp prop bot) []) byNegative
+
+-- if solvable { VerificationResultSolvableStatus::Solvable } else { .. }; `has_quantifiers` and `has_free_parameters`, whose file is not
+-- given, are together openForm
+unfoldable pub bySolvable : ℕ → Form → Bool → Option Verdict
+bySolvable depth prop true = some Solvable
+bySolvable depth prop false = notSolvable depth prop (openForm prop)
+
+-- let get_prop_solvable_status = |prop: &Prop| { let solvable = prove(&prop).is_some(); .. }
 unfoldable pub solvableStatus : ℕ → Form → Option Verdict
-solvableStatus depth prop =
-    -- let solvable = prove(&prop).is_some();
-    isSome (proveWithAssumptions depth prop []) λ solvable.
-    elim solvable [
-      -- if solvable { VerificationResultSolvableStatus::Solvable }
-      | true ↦ some Solvable
-      -- else { if !prop.has_quantifiers() && !prop.has_free_parameters() { return VerificationResultSolvableStatus::Unsolvable; }
-      | false ↦ elim (openForm prop) [
-        | false ↦ some Unsolvable
-        -- let negative_solvable = prove(&Prop::Impl(prop.boxed(), Prop::False.boxed())).is_some();
-        | true ↦ isSome (proveWithAssumptions depth (imp prop bot) []) λ negativeSolvable.
-            -- if negative_solvable { return VerificationResultSolvableStatus::Unsolvable; } VerificationResultSolvableStatus::Unknown }
-            elim negativeSolvable [ true ↦ some Unsolvable | false ↦ some Unknown ]
-      ]
-    ]
+solvableStatus depth prop = isSome (proveWithAssumptions depth prop []) (bySolvable depth prop)
 
 -- the closure gives v, at every depth that suffices
 pub record Gives (prop : Form) (v : Verdict) : Type 0 where
