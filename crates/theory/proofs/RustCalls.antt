@@ -1,12 +1,12 @@
 -- The call, its text and the status beside the Rust's. Assumes nothing.
-use Prim.Native.Nat.{ℕ, suc, _+_, _≤_}
+use Prim.Native.Nat.{ℕ, suc, _+_, _≤_, _<_}
 use mathlib.Core.Path.{_≡_, refl, sym, ap, ap₂, _∙_, subst}
 use mathlib.Core.Bool.{Bool, true, false}
 use mathlib.Core.Option.{Option, none, some}
 use mathlib.Core.List.{List, [], _∷_, _++_, map}
 use native.Mathlib.Omega.{arith}
 use lib.Dec.{T, leb}
-use borrow.Author.Tests.{leb-true, le-leb}
+use borrow.Author.Tests.{leb-true, le-leb, lt-leb}
 use lib.ListN.{length, take}
 use Rattle.theory.specs.Form.{Form, bot, imp, form, shape}
 use Rattle.theory.specs.Term as Tree
@@ -82,11 +82,17 @@ module _ (x : Claim) where
   unfolding inRust
   failed-same h = answer-same (h .passed) (λ i. lacks i) (h .is)
 
--- no index past 363
-unpast : {prop : Form} {as′ : List (List ℕ × Form)} {r : Returned} (u : ℕ) → u ≤ 364 → Returns prop as′ (unlessPast u r) → Returns prop as′ r
+-- no index past 363, and one past it
+pub unpast : {prop : Form} {as′ : List (List ℕ × Form)} {r : Returned} (u : ℕ) → u ≤ 364 → Returns prop as′ (unlessPast u r) → Returns prop as′ r
 unfolding unlessPast
 unpast {prop} {as′} {r} u h x =
     subst (λ (b : Bool). Returns prop as′ (elim b as (λ z. Returned) [ true ↦ r | false ↦ panicked ])) (le-leb u 364 h) x
+
+pub overpast : {prop : Form} {as′ : List (List ℕ × Form)} (r : Returned) (u : ℕ) → 364 < u → Returns prop as′ (unlessPast u r) →
+    Returns prop as′ panicked
+unfolding unlessPast
+overpast {prop} {as′} r u h x =
+    subst (λ (b : Bool). Returns prop as′ (elim b as (λ z. Returned) [ true ↦ r | false ↦ panicked ])) (lt-leb u 364 h) x
 
 -- the status by what the Rust returns to the first question, and to the second
 module _ {prop : Form} where

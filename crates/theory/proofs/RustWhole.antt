@@ -20,7 +20,7 @@ use Rattle.theory.specs.Search.{entry, run, idents, pushed, first, given
 use Rattle.theory.specs.Written.{AllIn, Answers}
 use Rattle.theory.specs.RustTerm as Rust
 use Rattle.theory.specs.RustTerm.{TypeJudgment, judgment}
-use Rattle.theory.specs.RustProver.{Returned, Some, None, panicked, called, assumed, proveWithAssumptions}
+use Rattle.theory.specs.RustProver.{Returned, Some, None, panicked, unended, called, assumed, proveWithAssumptions}
 use Rattle.theory.specs.RustCall.{paired, Returns, unlessPast, inRust}
 use Rattle.theory.proofs.Forms.{At, at-form}
 use Rattle.theory.proofs.Alike.{Alike, alike}
@@ -205,3 +205,19 @@ unfolding none-short prove
 never-short names ws hs g {a} x =
     subst (λ (b : Answer). ¬ IsShort b) (x .is)
     (alike (limited boundless) (limited boundless) none-short (skipped names) ws hs g tt tt (x .depth))
+
+-- an answer that is no shortage and is finished is a return
+unless-ends : (u : ℕ) (r : Returned) → r ≢ unended → unlessPast u r ≢ unended
+unfolding unlessPast
+unless-ends u r n = go (leb u 364)
+  where
+    go : (b : Bool) → elim b as (λ z. Returned) [ true ↦ r | false ↦ panicked ] ≢ unended
+    go true p = n p
+    go false p = let z : _≡_ {A = ℕ} 0 1 = cc in omega arith
+
+pub in-rust-ends : (names : List (List ℕ)) (a : Answer) → ¬ IsShort a → a ≢ unfinished → inRust names a ≢ unended
+unfolding inRust
+in-rust-ends names (found t s) n f = unless-ends (s .used) _ (λ p. let z : _≡_ {A = ℕ} 0 1 = cc in omega arith)
+in-rust-ends names (failed u m K) n f = unless-ends u _ (λ p. let z : _≡_ {A = ℕ} 0 1 = cc in omega arith)
+in-rust-ends names (short l m) n f = absurd (n is-short)
+in-rust-ends names unfinished n f = absurd (f refl)
