@@ -1,36 +1,36 @@
 -- The call, its text and the status beside the Rust's. Assumes nothing.
-use Prim.Native.Nat.{ℕ, suc, _+_, _≤_, _<_}
+use Prim.Native.Nat.{ℕ, _+_, _≤_, _<_}
 use mathlib.Core.Path.{_≡_, refl, sym, ap, ap₂, _∙_, subst}
 use mathlib.Core.Bool.{Bool, true, false}
-use mathlib.Core.Option.{Option, none, some}
-use mathlib.Core.List.{List, [], _∷_, _++_, map}
+use mathlib.Core.Option.{none, some}
+use mathlib.Core.List.{List, [], _++_, map}
 use native.Mathlib.Omega.{arith}
 use lib.Dec.{T, leb}
 use borrow.Author.Tests.{leb-true, le-leb, lt-leb}
 use lib.ListN.{length, take}
-use Rattle.theory.specs.Form.{Form, bot, imp, form, shape}
+use Rattle.theory.specs.Form.{Form, bot, imp, shape}
 use Rattle.theory.specs.Term as Tree
 use Rattle.theory.specs.Term.{Term, term}
 use Rattle.theory.specs.Names.{bytesOf}
 use Rattle.theory.specs.NameText.{namesIn, entriesUpTo}
 use Rattle.theory.specs.Layout.{nodesIn}
 use Rattle.theory.specs.Text.{bytes, formText, termText}
-use Rattle.theory.specs.Meter.{Formulas, Answer, found, failed}
-use Rattle.theory.specs.Log.{IsShort, is-short}
-use Rattle.theory.specs.Call.{Claim, refusal, searchLimits, givenBook, searched, Outcome, proved, unprovable, shortage, refused, called}
+use Rattle.theory.specs.Meter.{Formulas, Answer}
+use Rattle.theory.specs.Log.{IsShort}
+use Rattle.theory.specs.Call.{Claim, refusal, searchLimits, givenBook, searched, Outcome, unprovable, shortage, called}
 use Rattle.theory.specs.Status.{Verdict, Solvable, Unsolvable, Unknown, Status, settled, refuted, judged, Inquiry, firstClaim, secondClaim}
 use Rattle.theory.specs.Status.{secondOutcome, goalIsOpen, openForm, asked}
 use Rattle.theory.specs.Owed.{Passes, asksFor}
 use Rattle.theory.specs.RustTerm.{ProofTerm, named}
 use Rattle.theory.specs.RustText.{houseText}
-use Rattle.theory.specs.RustProver.{Returned, Some, None, panicked, proveWithAssumptions}
+use Rattle.theory.specs.RustProver.{Returned, Some, None, panicked}
 use Rattle.theory.specs.RustCall.{paired, assumptionsOf, goalOf, Returns, unlessPast, inRust, UpTo363}
 use Rattle.theory.specs.RustStatus.{isSome, byNegative, notSolvable, bySolvable, solvableStatus, Gives}
 use Rattle.theory.proofs.Passing.{passes}
 use Rattle.theory.proofs.Called.{Proves, Fails, Told, t-proved, t-unprovable, t-shortage, t-refused, told, search-answers}
 use Rattle.theory.proofs.Returned.{term-decode}
 use Rattle.theory.proofs.StatusCalls.{asked-status, second-goal}
-use Rattle.theory.proofs.RustWhole.{Lacks, lacks, search-same}
+use Rattle.theory.proofs.RustWhole.{lacks, search-same}
 
 -- the house text of a term is that of the Rust's, whose names are the bytes
 pub text-named : (names : List (List ℕ)) (t : Term) → termText names t ≡ houseText (named names t)

@@ -1,6 +1,6 @@
 -- What is claimed of the Rust, each claim in its final form; the proofs stand in the modules cited. Assumes nothing.
 use Prim.Native.Nat.{ℕ, _≤_, _<_}
-use mathlib.Core.Path.{_≡_, refl, sym, ap, _∙_, subst}
+use mathlib.Core.Path.{_≡_, _∙_}
 use mathlib.Core.Option.{none, some}
 use mathlib.Core.Logic.{_≢_}
 use mathlib.Core.List.{List, map}
@@ -11,7 +11,6 @@ use Rattle.theory.specs.Term.{Term, term}
 use Rattle.theory.specs.Names.{spell}
 use Rattle.theory.specs.NameText.{namesIn}
 use Rattle.theory.specs.Layout.{nodesIn}
-use Rattle.theory.specs.Text.{termText}
 use Rattle.theory.specs.Meter.{boundless, Limits, Answer}
 use Rattle.theory.specs.Log.{IsShort}
 use Rattle.theory.specs.Written.{AllIn, Answers}
@@ -55,8 +54,7 @@ module _ (names : List (List ℕ)) (ws : Book) (hs : List ℕ) (g : ℕ) (good :
   -- the Rust ends, whatever it is asked
   pub rust-ends : (r : Returned) × Returns (form ws g) (paired names (map (form ws) hs)) r × (r ≢ unended)
   rust-ends =
-      let a = has-answer boundless names ws hs g good ins in-g in
-      (
+      let a = has-answer boundless names ws hs g good ins in-g in (
         inRust names (a .0),
         same-as-rust (a .1),
         RustWhole.in-rust-ends names (a .0) (RustWhole.never-short names ws hs g (a .1)) (a .1 .finished),
@@ -90,8 +88,7 @@ module _ (x : Claim) where
       (X : ProofTerm) × Returns (goalOf x) (assumptionsOf x) (Some X u) × ((written (draftAfter x r f t buffer)) .part ≡ houseText X)
   unfolding draftAfter drafted
   same-text {r} {n} {u} {f} {t} e l buffer h =
-      let s : Term = term (map shape (take f ((called x) .words))) (nodesIn ((called x) .terms) t) r in
-      (
+      let s : Term = term (map shape (take f ((called x) .words))) (nodesIn ((called x) .terms) t) r in (
         named (namesIn (x .text)) s,
         same-proved e l,
         (written-text (draftAfter x r f t buffer) h) .1 ∙ RustCalls.text-named (namesIn (x .text)) s,

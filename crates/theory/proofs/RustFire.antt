@@ -8,7 +8,7 @@ use mathlib.Core.List.{List, [], _∷_, _++_, append-assoc, append-nil, reverse,
 use native.Mathlib.Nat.{le-trans, le-suc, zero-add, suc-add, add-suc}
 use lib.ListN.{length, getD}
 use lib.Dec.{eqb, eqb·zero-suc, eqb·suc-zero, eqb·suc-suc}
-use Rattle.theory.specs.Form.{Form, leaf, imp, Shape, isTop, isBot, isLeaf, isAnd, isOr, isImp, look, treeOf, trees, form, Below}
+use Rattle.theory.specs.Form.{Form, leaf, Shape, isTop, isBot, isLeaf, isAnd, isOr, isImp, look, treeOf, trees, form, Below}
 use Rattle.theory.specs.Term.{blank, app, NodesFrom}
 use Rattle.theory.specs.Meter.{Entry, State}
 use Rattle.theory.specs.Search.{entry, isLeaf?, firstLeaf, fireLeaf, fireShape, Fired, fireAt, fire}
@@ -16,7 +16,7 @@ use Rattle.theory.specs.RustTerm.{ProofTerm, Application, equal, TypeJud
 use Rattle.theory.specs.RustProver.{atomChange, change, changes, changed}
 use Rattle.theory.proofs.Forms.{snoc-length, At, at-ext, at-form, form-at, good-at}
 use Rattle.theory.proofs.Derive.{Sane, Grows, Read}
-use Rattle.theory.proofs.RustSame.{Stands, stands-grows, stands-app, Mirrors, Mirror, mirror-none, mirror-more}
+use Rattle.theory.proofs.RustSame.{Stands, stands-grows, stands-app, Mirror, mirror-none, mirror-more}
 
 eqb-turned : (m n : ℕ) → eqb m n ≡ eqb n m
 eqb-turned zero zero = refl

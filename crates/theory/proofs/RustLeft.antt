@@ -5,7 +5,7 @@ use mathlib.Core.List.{List, [], _∷_, _++_}
 use native.Mathlib.Nat.{le-trans, le-refl, le-suc}
 use native.Mathlib.Omega.{arith}
 use lib.ListN.{length}
-use Rattle.theory.specs.Form.{Form, top, bot, leaf, and, or, imp, Shape, isTop, isBot, isLeaf, isAnd, isOr, isImp, Book, look, treeOf}
+use Rattle.theory.specs.Form.{Form, imp, Shape, isTop, isBot, isLeaf, isAnd, isOr, isImp, Book, look, treeOf}
 use Rattle.theory.specs.Form.{trees, form, Below, Ext}
 use Rattle.theory.specs.Term.{rightTrue, rightAnd, rightImpl, leftFalse, leftAnd, leftOr, trueImpl, andImpl, orImpl, Node, node, by}
 use Rattle.theory.specs.Term.{ident, pair, fst, snd, fn, app, inl, inr, case, abort, asc, unit}
@@ -17,13 +17,13 @@ use Rattle.theory.specs.RustTerm.{ProofTerm, TypeJudgment, judgment}
 use Rattle.theory.specs.RustProver.{Call, proveRight, handleAndRight, handleImplRight, handleAndLeft, handleOrLeft, handleImplLeft}
 use Rattle.theory.specs.RustProver.{matchPopped, proveLeft}
 use Rattle.theory.proofs.Forms.{ext-by, At, at-ext, at-form, imp-new, imp-two, form-at, good-at}
-use Rattle.theory.proofs.Derive.{fresh-above, Sane, Grows, grows-refl, grows-trans}
+use Rattle.theory.proofs.Derive.{fresh-above, Sane, Grows, grows-trans}
 use Rattle.theory.proofs.Charges.{made}
 use Rattle.theory.proofs.Knows.{made-grows, made-nodes, read-new}
 use Rattle.theory.proofs.NamesApart.{made-bytes}
 use Rattle.theory.proofs.RustSame.{follows-eq, follows-trans, name-follows, termAt, Stands, stands-grows, itself, stands-ident, stands-unit, stands-pair, stands-fst}
 use Rattle.theory.proofs.RustSame.{stands-snd, stands-fn, stands-app, stands-inl, stands-inr, stands-case, stands-abort, stands-asc}
-use Rattle.theory.proofs.RustSame.{Mirrors, Mirror, mirror-none, mirror-more, mirror-grows, mirror-append, Shows, Same, Agrees, later}
+use Rattle.theory.proofs.RustSame.{Mirrors, Mirror, mirror-none, mirror-more, mirror-grows, mirror-append, Same, Agrees, later}
 use Rattle.theory.proofs.RustSame.{then-same, charge-same, end-same}
 
 module _ (L : Limits) (taken names : List (List ℕ)) (ask : Ask Answer) (call : Call) (agrees : Agrees names ask call) where

@@ -4,7 +4,7 @@ use Prim.Native.Nat.{ℕ, zero, suc, _≤_, _<_}
 use mathlib.Core.Path.{_≡_, refl, sym, ap, ap₂, _∙_, subst}
 use mathlib.Core.Bool.{Bool, true, false}
 use mathlib.Core.Option.{Option, none, some}
-use mathlib.Core.List.{List, [], _∷_, _++_, append-nil}
+use mathlib.Core.List.{List, [], _∷_, _++_}
 use native.Mathlib.Nat.{le-refl, le-trans, zero-add, le-of-suc-le-suc}
 use native.Mathlib.Decide.{decLe}
 use native.Mathlib.Omega.{arith}
@@ -16,14 +16,14 @@ use Rattle.theory.specs.Names.{spell, among, skip, fresh, bytesOf}
 use Rattle.theory.specs.World.{Tree}
 use Rattle.theory.specs.Meter.{limited, Limits, Lack, Entry, Sequent, State, Answer, found, failed, short, unfinished, Judgement}
 use Rattle.theory.specs.Meter.{byRight, byLeft, bySearch, Ask, andThen, attempt, charge}
-use Rattle.theory.specs.Search.{close, name}
+use Rattle.theory.specs.Search.{close}
 use Rattle.theory.specs.RustNames.{generate}
 use Rattle.theory.specs.RustTerm as Rust
 use Rattle.theory.specs.RustTerm.{ProofTerm, TypeJudgment, named}
 use Rattle.theory.specs.RustProver.{Returned, Some, None, question, ifLetSome, panicked, Call, generated, generateIdentifier}
 use Rattle.theory.proofs.Forms.{ext-refl, At, at-ext}
 use Rattle.theory.proofs.Terms.{term-keeps, term-book, nodes-more, node-new}
-use Rattle.theory.proofs.Derive.{Sane, Grows, grows-refl, grows-trans, Read, read-term, skip-above}
+use Rattle.theory.proofs.Derive.{Sane, Grows, grows-trans, Read, read-term, skip-above}
 use Rattle.theory.proofs.Charges.{made, noded, restart, at-charge, at-nodes}
 use Rattle.theory.proofs.Naming.{fresh-free}
 use Rattle.theory.proofs.RustSpelling.{spells-alike, panics-at}

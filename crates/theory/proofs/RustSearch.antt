@@ -11,11 +11,11 @@ use Rattle.theory.specs.Term.{search3, search4, Node, node, by, ident, f
 use Rattle.theory.specs.Names.{fresh}
 use Rattle.theory.specs.World.{Seen}
 use Rattle.theory.specs.Meter.{limited, Limits, Entry, Sequent, State, Answer, found, Judgement, byRight, byLeft, bySearch, Ask, fail}
-use Rattle.theory.specs.Search.{name, goalUp, goOn, entry, firstLeaf, Fired, fire, nestLeft, nest, onRight, tryAt, positions, halves}
+use Rattle.theory.specs.Search.{name, goalUp, goOn, entry, Fired, fire, nestLeft, nest, onRight, tryAt, positions, halves}
 use Rattle.theory.specs.Search.{fireOr, rule2, onSearch, rule, run}
 use Rattle.theory.specs.RustTerm as Rust
 use Rattle.theory.specs.RustTerm.{ProofTerm, TypeJudgment, removed}
-use Rattle.theory.specs.RustProver.{Returned, Some, None, Call, implImpl, implRule, implRules, orRules, changes, changed, idRule}
+use Rattle.theory.specs.RustProver.{Returned, Some, Call, implImpl, implRule, implRules, orRules, changes, changed, idRule}
 use Rattle.theory.specs.RustProver.{implAtomRule, afterId, search′, body, called, proveRight}
 use Rattle.theory.proofs.Forms.{ext-refl, snoc-length, At, at-ext, at-form, imp-new, form-at, good-at}
 use Rattle.theory.proofs.Derive.{fresh-above, Sane, Grows, grows-refl, grows-trans}
@@ -29,7 +29,7 @@ use Rattle.theory.proofs.RustSame.{stands-inr, stands-asc, Mirrors, Mir
 use Rattle.theory.proofs.RustSame.{Shows, Same, same-found, same-failed, same-short, same-unfinished, Ready, Agrees, later, try-same}
 use Rattle.theory.proofs.RustSame.{later-from, charge-same, end-same}
 use Rattle.theory.proofs.RustLeft.{right-same, pop-same}
-use Rattle.theory.proofs.RustFire.{removed-at, Both, both-empty, both-more, FoundAs, found-none, found-some, find-same, FiredSame}
+use Rattle.theory.proofs.RustFire.{removed-at, Both, both-empty, both-more, FoundAs, found-none, found-some, find-same}
 use Rattle.theory.proofs.RustFire.{fired-same, all-fall, kept, news}
 
 -- the Rust goes on at once where a record is no position of rule 4

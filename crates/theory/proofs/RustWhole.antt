@@ -1,17 +1,17 @@
 -- The start beside the Rust's, and so the whole: verdict and named term are the Rust's, or it panics past index 363. Assumes nothing.
-use Prim.Native.Nat.{ℕ, zero, suc, _+_, _≤_, _<_, zero-le, suc-le-suc}
+use Prim.Native.Nat.{ℕ, suc, _+_, _≤_, _<_, zero-le, suc-le-suc}
 use mathlib.Core.Path.{_≡_, refl, sym, ap, ap₂, _∙_, subst}
 use mathlib.Core.Bool.{Bool, true, false}
 use mathlib.Core.Logic.{_≢_}
-use mathlib.Core.List.{List, [], _∷_, _++_, map, append-nil}
-use native.Mathlib.Nat.{le-of-suc-le-suc, not-suc-le-zero, zero-add, suc-inj}
+use mathlib.Core.List.{List, [], _∷_, map, append-nil}
+use native.Mathlib.Nat.{zero-add, suc-inj}
 use native.Mathlib.Omega.{arith}
 use lib.ListN.{length, getD}
 use lib.Dec.{leb}
 use borrow.Author.Tests.{leb-true, leb-false}
 use Rattle.theory.specs.Form.{Form, Book, form, Good}
-use Rattle.theory.specs.Term.{blank, ident, term}
-use Rattle.theory.specs.Names.{reserved, skipped}
+use Rattle.theory.specs.Term.{ident}
+use Rattle.theory.specs.Names.{skipped}
 use Rattle.theory.specs.World.{Tree}
 use Rattle.theory.specs.Meter.{fits, limited, boundless, Limits, Entry, State, Answer, found, failed, short, unfinished, byRight}
 use Rattle.theory.specs.Meter.{andThen, attempt, fail, lacking, charge, spend, enter}
@@ -20,7 +20,7 @@ use Rattle.theory.specs.Search.{entry, run, idents, pushed, first, given
 use Rattle.theory.specs.Written.{AllIn, Answers}
 use Rattle.theory.specs.RustTerm as Rust
 use Rattle.theory.specs.RustTerm.{TypeJudgment, judgment}
-use Rattle.theory.specs.RustProver.{Returned, Some, None, panicked, unended, called, assumed, proveWithAssumptions}
+use Rattle.theory.specs.RustProver.{Returned, panicked, unended, called, assumed, proveWithAssumptions}
 use Rattle.theory.specs.RustCall.{paired, Returns, unlessPast, inRust}
 use Rattle.theory.proofs.Forms.{At, at-form}
 use Rattle.theory.proofs.Alike.{Alike, alike}

@@ -1,14 +1,12 @@
 -- The Rust's `identifier_generator.rs` and `Prover::generate_identifier` as definitions, line by line, as a 64-bit build with overflow
 -- checks runs them. Each line of the Rust stands above its own. Assumes nothing.
 use Prim.Native.Nat.{ℕ, zero, suc, _+_, _%_, _^_}
-use mathlib.Core.Bool.{Bool, true, false}
+use mathlib.Core.Bool.{true, false}
 use mathlib.Core.Option.{Option, none, some}
 use mathlib.Core.List.{List, [], _∷_, _++_, reverse}
-use lib.ListN.{length}
 use lib.Dec.{ltb}
 use lib.IntN.{pos}
 use lib.Ieee.{binary32, ofInt, div, toUnsigned}
-use Rattle.theory.specs.Names.{among}
 
 -- let alphabet_length = alphabet.len();
 abbrev pub alphabetLength : ℕ

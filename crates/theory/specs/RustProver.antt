@@ -126,7 +126,7 @@ module _ (forbidden : List (List ℕ)) where
       generateIdentifier idx₁ λ sndIdent idx₂.
       -- let new_proof_term = TypeAscription { Function { fst_ident, Function { snd_ident, Application(proof_term, Pair(fst, snd)) } } };
       let newProofTerm : ProofTerm =
-          TypeAscription (Function fstIdent (Function sndIdent (Application proofTerm (Pair (Ident fstIdent) (Ident sndIdent))))) newProp in
+      TypeAscription (Function fstIdent (Function sndIdent (Application proofTerm (Pair (Ident fstIdent) (Ident sndIdent))))) newProp in
       -- sequent.append_ordered(new_judgment); self.prove_left(sequent)
       call byLeft (appendOrdered sequent (judgment newProp newProofTerm)) idx₂
   handleImplLeft call proofTerm snd sequent idx (or orFst orSnd) =
@@ -135,7 +135,7 @@ module _ (forbidden : List (List ℕ)) where
       generateIdentifier idx λ orFstIdent idx₁.
       -- TypeAscription { Function { or_fst_ident, Application { proof_term, OrLeft(Ident(or_fst_ident)) } } }
       let orFstProofTerm : ProofTerm =
-          TypeAscription (Function orFstIdent (Application proofTerm (OrLeft (Ident orFstIdent)))) orFstProp in
+      TypeAscription (Function orFstIdent (Application proofTerm (OrLeft (Ident orFstIdent)))) orFstProp in
       -- sequent.append_ordered(or_fst_judgment);
       let sequent₁ : Sequent = appendOrdered sequent (judgment orFstProp orFstProofTerm) in
       -- let or_snd_prop = Prop::Impl(or_snd.clone(), (*snd).boxed()); let or_snd_ident = self.generate_identifier();
@@ -143,7 +143,7 @@ module _ (forbidden : List (List ℕ)) where
       generateIdentifier idx₁ λ orSndIdent idx₂.
       -- TypeAscription { Function { or_snd_ident, Application { proof_term, OrRight(Ident(or_snd_ident)) } } }
       let orSndProofTerm : ProofTerm =
-          TypeAscription (Function orSndIdent (Application proofTerm (OrRight (Ident orSndIdent)))) orSndProp in
+      TypeAscription (Function orSndIdent (Application proofTerm (OrRight (Ident orSndIdent)))) orSndProp in
       -- sequent.append_ordered(or_snd_judgment); self.prove_left(sequent)
       call byLeft (appendOrdered sequent₁ (judgment orSndProp orSndProofTerm)) idx₂
   -- Prop::False => self.prove_left(sequent)
@@ -188,7 +188,7 @@ module _ (forbidden : List (List ℕ)) where
       generateIdentifier idx₁ λ secondParamIdent idx₂.
       -- TypeAscription { Function { first_param_ident, Application { proof_term, Function { .., Ident(first_param_ident) } } } }
       let newProofTerm : ProofTerm =
-          TypeAscription (Function firstParamIdent (Application proofTerm (Function secondParamIdent (Ident firstParamIdent)))) newProp in
+      TypeAscription (Function firstParamIdent (Application proofTerm (Function secondParamIdent (Ident firstParamIdent)))) newProp in
       -- fst_sequent.append_ordered(..); if let Some(fst_proof_term) = self.prove_right(fst_sequent) {
       ifLetSome (call byRight (appendOrdered fstSequent (judgment newProp newProofTerm)) idx₂)
       -- snd_sequent.append_ordered(TypeJudgment::new(*impl_snd, Application::create(proof_term.boxed(), fst_proof_term.boxed(), None)));
