@@ -18,8 +18,8 @@ use Rattle.theory.specs.Text.{bytes, formText, termText}
 use Rattle.theory.specs.Meter.{Formulas, Answer}
 use Rattle.theory.specs.Log.{IsShort}
 use Rattle.theory.specs.Call.{Claim, refusal, searchLimits, givenBook, searched, Outcome, unprovable, shortage, called}
-use Rattle.theory.specs.Status.{Verdict, Solvable, Unsolvable, Unknown, Status, settled, refuted, judged, Inquiry, firstClaim, secondClaim}
-use Rattle.theory.specs.Status.{secondOutcome, goalIsOpen, openForm, asked}
+use Rattle.theory.specs.Status.{Verdict, Solvable, Unsolvable, Unknown, Status, settled, refuted, judged, Inquiry, firstClaim}
+use Rattle.theory.specs.Status.{secondClaim, secondOutcome, goalIsOpen, openForm, asked}
 use Rattle.theory.specs.Owed.{Passes, asksFor}
 use Rattle.theory.specs.RustTerm.{ProofTerm, named}
 use Rattle.theory.specs.RustText.{houseText}
@@ -83,7 +83,8 @@ module _ (x : Claim) where
   failed-same h = answer-same (h .passed) (λ i. lacks i) (h .is)
 
 -- no index past 363, and one past it
-pub unpast : {prop : Form} {as′ : List (List ℕ × Form)} {r : Returned} (u : ℕ) → u ≤ 364 → Returns prop as′ (unlessPast u r) → Returns prop as′ r
+pub unpast : {prop : Form} {as′ : List (List ℕ × Form)} {r : Returned} (u : ℕ) → u ≤ 364 → Returns prop as′ (unlessPast u r) →
+    Returns prop as′ r
 unfolding unlessPast
 unpast {prop} {as′} {r} u h x =
     subst (λ (b : Bool). Returns prop as′ (elim b as (λ z. Returned) [ true ↦ r | false ↦ panicked ])) (le-leb u 364 h) x

@@ -14,9 +14,9 @@ use Rattle.theory.specs.RustNames.{floored, power, pushes, turned, gener
 use Rattle.theory.specs.RustTerm.{equal, removed, find}
 use Rattle.theory.specs.RustText.{houseText}
 use Rattle.theory.specs.RustProver.{question, ifLetSome, generated, generateIdentifier, handleAndRight, handleImplRight, proveRight}
-use Rattle.theory.specs.RustProver.{handleAndLeft, handleOrLeft, handleImplLeft, matchPopped, proveLeft, implImpl, implRule, implRules}
-use Rattle.theory.specs.RustProver.{orRules, atomChange, change, changes, changed, idRule, implAtomRule, afterId, search′, body, called}
-use Rattle.theory.specs.RustProver.{assumed, proveWithAssumptions}
+use Rattle.theory.specs.RustProver.{handleAndLeft, handleOrLeft, handleImplLeft, matchPopped, proveLeft, implImpl, implRule}
+use Rattle.theory.specs.RustProver.{implRules, orRules, atomChange, change, changes, changed, idRule, implAtomRule, afterId, search′}
+use Rattle.theory.specs.RustProver.{body, called, assumed, proveWithAssumptions}
 use Rattle.theory.specs.RustCall.{paired, assumptionsOf, goalOf}
 use Rattle.theory.specs.RustTable.{shownOf, rustShown, rustStated}
 

@@ -40,9 +40,10 @@ rust-overflows = RustSpelling.panics-at
 
 module _ (names : List (List ℕ)) (ws : Book) (hs : List ℕ) (g : ℕ) (good : Good ws) (ins : AllIn ws hs) (in-g : g < length ws)
     (as-many : length names ≡ length hs) (few : length hs ≤ 64) where
-  -- what the search without limits answers, the Rust returns: the same verdict, the same named term and the same number of indices. Where an
-  -- index passes 363 it panics, and only there
-  pub same-as-rust : {a : Answer} → Answers boundless names ws hs g a → Returns (form ws g) (paired names (map (form ws) hs)) (inRust names a)
+  -- what the search without limits answers, the Rust returns: the same verdict, the same named term and the same number of indices. Where
+  -- an index passes 363 it panics, and only there
+  pub same-as-rust : {a : Answer} → Answers boundless names ws hs g a →
+      Returns (form ws g) (paired names (map (form ws) hs)) (inRust names a)
   same-as-rust x =
       RustWhole.search-same boundless names ws hs g good ins in-g as-many few x (RustWhole.never-short names ws hs g x)
 

@@ -1,5 +1,5 @@
--- Search's rules 1 and 2 beside the Rust's: the leaf that is found, what fires, and that removing what fired by falling position leaves what
--- is kept. Assumes nothing.
+-- Search's rules 1 and 2 beside the Rust's: the leaf that is found, what fires, and that removing what fired by falling position leaves
+-- what is kept. Assumes nothing.
 use Prim.Native.Nat.{ℕ, zero, suc, _+_, _≤_, _<_, zero-le, suc-le-suc}
 use mathlib.Core.Path.{_≡_, refl, sym, ap, ap₂, _∙_, subst}
 use mathlib.Core.Bool.{Bool, true, false, _&&_}
@@ -164,7 +164,8 @@ module _ (names : List (List ℕ)) (s : State) (sane : Sane s) where
     unfolding fire fireAt entry kept news changes
     fired-same mirror-none n l = record { keeps = mirror-none; fits = λ m. tt; new = λ s₁ g f. mirror-none; both = λ i. both-empty }
     fired-same (mirror-more {e} {es} {j} {js} k r) n l =
-        go (subst (λ (X : Form). FiresAs (j .proofTerm) (fireShape (s .words) us (look (s .words) (e .formula))) (change U (j .proofTerm) X))
+        go (subst (λ (X : Form). FiresAs (j .proofTerm) (fireShape (s .words) us (look (s .words) (e .formula)))
+        (change U (j .proofTerm) X))
         (sym (form-at (s .words) (sane .words) (e .formula) (k .formula .there)) ∙ k .formula .tree)
         (shape-fires (j .proofTerm) (look (s .words) (e .formula)) (good-at (s .words) (sane .words) (e .formula) (k .formula .there))))
         (fired-same r n l) (fired-same r (suc n) (le-trans l (le-suc n)))

@@ -21,7 +21,8 @@ use Rattle.theory.proofs.Derive.{fresh-above, Sane, Grows, grows-trans}
 use Rattle.theory.proofs.Charges.{made}
 use Rattle.theory.proofs.Knows.{made-grows, made-nodes, read-new}
 use Rattle.theory.proofs.NamesApart.{made-bytes}
-use Rattle.theory.proofs.RustSame.{follows-eq, follows-trans, name-follows, termAt, Stands, stands-grows, itself, stands-ident, stands-unit, stands-pair, stands-fst}
+use Rattle.theory.proofs.RustSame.{follows-eq, follows-trans, name-follows, termAt, Stands, stands-grows, itself, stands-ident}
+use Rattle.theory.proofs.RustSame.{stands-unit, stands-pair, stands-fst}
 use Rattle.theory.proofs.RustSame.{stands-snd, stands-fn, stands-app, stands-inl, stands-inr, stands-case, stands-abort, stands-asc}
 use Rattle.theory.proofs.RustSame.{Mirrors, Mirror, mirror-none, mirror-more, mirror-grows, mirror-append, Same, Agrees, later}
 use Rattle.theory.proofs.RustSame.{then-same, charge-same, end-same}

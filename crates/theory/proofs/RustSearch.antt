@@ -6,7 +6,8 @@ use mathlib.Core.List.{List, [], _∷_, _++_, append-nil, append-assoc, reverse}
 use native.Mathlib.Nat.{le-trans, le-refl, le-suc}
 use native.Mathlib.Omega.{arith}
 use lib.ListN.{length}
-use Rattle.theory.specs.Form.{Form, imp, Shape, isTop, isBot, isLeaf, isAnd, isOr, isImp, Book, look, treeOf, trees, form, Below, Good}
+use Rattle.theory.specs.Form.{Form, imp, Shape, isTop, isBot, isLeaf, isAnd, isOr, isImp, Book, look, treeOf, trees, form, Below}
+use Rattle.theory.specs.Form.{Good}
 use Rattle.theory.specs.Term.{search3, search4, Node, node, by, ident, fn, app, inl, inr, asc}
 use Rattle.theory.specs.Names.{fresh}
 use Rattle.theory.specs.World.{Seen}
@@ -24,7 +25,8 @@ use Rattle.theory.proofs.Fire.{nests-at}
 use Rattle.theory.proofs.Tests.{some-none}
 use Rattle.theory.proofs.Knows.{made-grows, made-nodes, read-new}
 use Rattle.theory.proofs.NamesApart.{made-bytes}
-use Rattle.theory.proofs.RustSame.{follows-eq, follows-trans, name-follows, Stands, stands-grows, itself, stands-ident, stands-fn, stands-app, stands-inl}
+use Rattle.theory.proofs.RustSame.{follows-eq, follows-trans, name-follows, Stands, stands-grows, itself, stands-ident, stands-fn}
+use Rattle.theory.proofs.RustSame.{stands-app, stands-inl}
 use Rattle.theory.proofs.RustSame.{stands-inr, stands-asc, Mirrors, Mirror, mirror-none, mirror-more, mirror-grows, mirror-append}
 use Rattle.theory.proofs.RustSame.{Shows, Same, same-found, same-failed, same-short, same-unfinished, Ready, Agrees, later, try-same}
 use Rattle.theory.proofs.RustSame.{later-from, charge-same, end-same}
@@ -269,7 +271,8 @@ module _ (L : Limits) (taken names : List (List ℕ)) (ask : Ask Answer) (call :
       (proveRight taken call (record { unorderedCtx = Q .unorderedCtx; orderedCtx = Q .orderedCtx; goal = X }) (s .used) X))
       (sym e ∙ h .goal .tree)
       (right-same L taken names ask call agrees q s (Q .unorderedCtx) (Q .orderedCtx) sane (h .unordered) (h .ordered)
-      (look (s .words) (q .goal)) (good-at (s .words) (sane .words) (q .goal) (h .goal .there)) (record { there = h .goal .there; tree = e }))
+      (look (s .words) (q .goal)) (good-at (s .words) (sane .words) (q .goal) (h .goal .there))
+      (record { there = h .goal .there; tree = e }))
   rule-same byLeft q s Q sane h n =
       pop-same L taken names ask call agrees q s (Q .unorderedCtx) (Q .orderedCtx) sane (h .unordered) (h .ordered) (Q .goal) (h .goal)
       (h .ordered) refl

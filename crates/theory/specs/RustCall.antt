@@ -1,5 +1,5 @@
--- What the Rust is given for a claim, what it returns whatever the depth, if that suffices, and what an answer of the search is in its words.
--- Assumes nothing.
+-- What the Rust is given for a claim, what it returns whatever the depth, if that suffices, and what an answer of the search is in its
+-- words. Assumes nothing.
 use Prim.Native.Nat.{ℕ, _≤_}
 use mathlib.Core.Path.{_≡_}
 use mathlib.Core.Bool.{true, false}

@@ -1,5 +1,5 @@
--- The Rust's records as definitions: `ProofTerm`, `TypeJudgment`, `Sequent` with its methods, and `Prop`'s structural equality. A `Prop` is a
--- Form: Atom, ForAll and Exists are its leaves of kind 2, 6 and 7. Assumes nothing.
+-- The Rust's records as definitions: `ProofTerm`, `TypeJudgment`, `Sequent` with its methods, and `Prop`'s structural equality. A `Prop`
+-- is a Form: Atom, ForAll and Exists are its leaves of kind 2, 6 and 7. Assumes nothing.
 use Prim.Native.Nat.{ℕ, zero, suc}
 use mathlib.Core.Bool.{Bool, true, false, _&&_}
 use mathlib.Core.Option.{Option, none, some}
