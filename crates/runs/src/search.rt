@@ -1,7 +1,9 @@
 // A claim through the public call, and its term through the writer. The lent slices serve the status too.
 ghost use mathlib.Core.Path.{_≡_};
-ghost use mathlib.Core.Bool.{_&&_};
+ghost use mathlib.Core.Bool.{true, _&&_};
+ghost use lib.ListN.{length};
 ghost use Rattle.claim.specs.Outcomes.{numbersOf};
+ghost use Rattle.runs.specs.Judged.{Asked, RestHolds};
 ghost use Rattle.runs.specs.Seven.{seven as Seven·seven};
 use crate::Answer;
 use crate::MOST_NUMBERS;
@@ -41,7 +43,9 @@ fn seven(outcome: Outcome) -> [usize; 7]
 }
 
 // Reads the words and the assumptions' indices of a book.
-fn read(s: &[u8], book: usize, assumed: &mut [u16], f: &mut [u32]) {
+fn read(s: &[u8], book: usize, assumed: &mut [u16], f: &mut [u32])
+    ensures { λ _. ⌜ length (now (assumed .exit)) ≡ length (now (assumed .entry)) ⌝ }
+{
     rows::read_words(s, book::words_at(s, book), book::given(s, book), f);
     rows::read_halves(s, book::indices_at(s, book), assumed.len(), assumed);
 }
@@ -55,7 +59,10 @@ fn ask(
     f: &mut [u32],
     t: &mut [u16],
     w: &mut [[u16; 2]],
-) -> Outcome {
+) -> Outcome
+    ensures { λ r. ⌜ Asked (now (assumed .entry)) (now (f .entry)) (now (t .entry)) (now (w .entry)) r
+        (now (f .exit)) (now (t .exit)) (now (w .exit)) ⌝ }
+{
     let count = book::given(s, book) + field(s, row, crate::SURPLUS);
     let goal = field(s, row, crate::GOAL);
     let steps = field(s, row, crate::STEPS);
@@ -118,7 +125,9 @@ fn record_value(s: &[u8], row: usize, outcome: Outcome) -> usize {
 }
 
 // The given words stand, and the rest of words and numbers is as it must be.
-pub fn kept(s: &[u8], book: usize, f: &[u32], t: &[u16], rest: Rest) -> bool {
+pub fn kept(s: &[u8], book: usize, f: &[u32], t: &[u16], rest: Rest) -> bool
+    ensures { λ r. ⌜ (r ≡ true → RestHolds rest (now (f .entry)) (now (t .entry))) ⌝ }
+{
     if rows::words_stand(s, book::words_at(s, book), book::given(s, book), f) {
         if rows::words_are(f, rest.words, rest.value as u32) {
             return rows::halves_are(t, rest.numbers, rest.value as u16);
