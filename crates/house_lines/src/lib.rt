@@ -2,7 +2,7 @@
 // functions are for `house_file`: they require numbers of at most seven digits and room for their lines, which it shows.
 ghost use mathlib.Core.Path.{_≡_};
 ghost use mathlib.Core.Option.{some};
-ghost use Prim.Native.Nat.{_≤_, _<_};
+ghost use Prim.Native.Nat.{_≤_};
 ghost use lib.ListN.{length};
 ghost use Rattle.theory.specs.NameText.{padded};
 ghost use Rattle.theory.specs.File.{line, counted, refusedLine};

@@ -1,12 +1,12 @@
 -- Rule 2 by falling position. A record that fires is no leaf, so taking it out does not change which leaf another record finds: the records
 -- may fire one after another, the last one first, and come to what `fire` says by rising position. Assumes nothing.
-use Prim.Native.Nat.{ℕ, zero, suc, _+_}
+use Prim.Native.Nat.{ℕ, suc, _+_}
 use mathlib.Core.Path.{_≡_, refl, sym, ap, _∙_}
 use mathlib.Core.Bool.{Bool, true, false}
 use mathlib.Core.Option.{Option, none, some}
 use mathlib.Core.List.{List, [], _∷_, _++_}
 use native.Mathlib.Omega.{arith}
-use native.Mathlib.Nat.{add-suc, suc-add}
+use native.Mathlib.Nat.{suc-add}
 use lib.ListN.{length}
 use Rattle.theory.specs.Form.{Book, Shape, isTop, isBot, isLeaf, isAnd, isOr, isImp, look}
 use Rattle.theory.specs.Term.{node, app, search2}

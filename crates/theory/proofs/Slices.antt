@@ -11,7 +11,7 @@ use Rattle.theory.specs.NameText.{namesIn, padded}
 use Rattle.theory.specs.Layout.{nodeWidth, inNumbers}
 use Rattle.theory.specs.Search.{given}
 use Rattle.theory.specs.Meter.{Within, fits, Lack, Steps, found, failed, short}
-use Rattle.theory.specs.Call.{Claim, refusal, searchLimits, givenWords, givenBook, searched, Outcome, proved, shortage, After}
+use Rattle.theory.specs.Call.{Claim, refusal, searchLimits, givenWords, givenBook, searched, Outcome, After}
 use Rattle.theory.specs.Call.{givenBack, unchanged, answered, called}
 use Rattle.theory.specs.Owed.{ZeroAbove, Passes}
 use Rattle.theory.proofs.Fitted.{padded-byte, padded-length, padded-front}

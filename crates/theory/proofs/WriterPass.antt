@@ -8,7 +8,7 @@ use native.Mathlib.Omega.{arith}
 use lib.Dec.{T, leb}
 use lib.ListN.{length, take}
 use Rattle.theory.specs.Form.{shape, badWord}
-use Rattle.theory.specs.Term.{Term, NodesFrom, AllNamesHave, term}
+use Rattle.theory.specs.Term.{Term, NodesFrom, AllNamesHave}
 use Rattle.theory.specs.Names.{skipped, GoodName}
 use Rattle.theory.specs.NameText.{namesIn, lastIndex, Written, padded, emptied, fitted}
 use Rattle.theory.specs.Layout.{nodesIn}

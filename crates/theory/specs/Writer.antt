@@ -1,11 +1,11 @@
 -- The call that writes the house text of a term: what it is lent, its refusals, and what its buffer holds afterwards. Assumes nothing.
 use Prim.Native.Nat.{ℕ, suc}
-use mathlib.Core.Bool.{Bool, true, false, _&&_}
+use mathlib.Core.Bool.{true, false, _&&_}
 use mathlib.Core.Option.{Option, none, some}
 use mathlib.Core.List.{List, [], map}
 use lib.ListN.{length, take}
 use lib.Dec.{leb}
-use Rattle.theory.specs.Form.{Form, top, bot, leaf, and, or, imp, Book, shape, badWord}
+use Rattle.theory.specs.Form.{Form, top, bot, leaf, and, or, imp, shape, badWord}
 use Rattle.theory.specs.Term.{Term, Ident, Pair, Fst, Snd, Fn, App, Inl, Inr, Case, Abort, Asc, Unit′, term}
 use Rattle.theory.specs.NameText.{namesIn, badName, Written, emptied, fitted}
 use Rattle.theory.specs.Layout.{nodesIn, badTerm}
