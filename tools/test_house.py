@@ -84,6 +84,56 @@ class Made(unittest.TestCase):
         self.assertEqual(listed(made(deep)), deep + "\n")
 
 
+# What a faulty list is told, by what is wrong with it: the list, where the fault stands, and a part of what is said.
+FAULTS = {
+    "formulas": [
+        ("goal", ", line 1, column 5", "here comes a formula"),
+        ("\ngoal q", ", line 2, column 6", "'q' is no formula"),
+        ("goal p16384", ", line 1, column 6", "over 16383"),
+        ("goal p01", ", line 1, column 6", "'p01' is no formula"),
+        ("goal (p0 p1)", ", line 1, column 7", "after ( comes &, | or >, not 'p0'"),
+        ("goal (& p0", ", line 1, column 11", "the ) of the bracket of column 6"),
+        ("goal (& p0)", ", line 1, column 11", "the bracket of column 6 has 1"),
+        ("goal (& p0 p1 T)", ", line 1, column 16", "the bracket of column 6 has 3"),
+        ("goal p0)", ", line 1, column 8", "the line should end before ')'"),
+        ("goal )", ", line 1, column 6", "closes no bracket"),
+        ("goal @0", ", line 1, column 6", "no word line gives @0"),
+    ],
+    "lines": [
+        ("gaol p0", ", line 1, column 1", "'gaol' is none of assume, goal"),
+        ("assume x p0", ", line 1, column 10", "here comes :"),
+        ("assume : p0", ", line 1, column 8", "here comes a name, not ':'"),
+        ('assume "x : p0', ", line 1, column 8", "a name in quotes"),
+        ("let p0 = T", ", line 1, column 5", "'p0' is no name"),
+        ("let a = T\nlet a = F", ", line 2, column 5", "already"),
+        ("goal T\nword 0 = T", ", line 2, column 1", "come before"),
+        ("word 1 = T", ", line 1, column 6", "the next word, 0"),
+        ("word 0 = (> T F)", ", line 1, column 10", "a sign over two words"),
+        ("word 0 = 0x100000000", ", line 1, column 10", "over 4294967295"),
+        ("after 0", ", line 1, column 7", "two hexadecimal digits"),
+        ("goal T\nafter 00", "", "unchecked"),
+    ],
+    "what a file cannot hold": [
+        ("unchecked\nassume %s : T" % ("n" * 256), ", line 2, column 8", "256 bytes, 255 are the most"),
+        ("unchecked\nword 0..65535 = T\ngoal T", ", line 2, column 6", "over 65534"),
+    ],
+    "what the program refuses": [
+        ("assume x : T\nassume %s : T\ngoal T" % ("n" * 33), ", line 2", "1 to 32 bytes, not 33"),
+        ('assume "" : T\ngoal T', ", line 1", "1 to 32 bytes, not 0"),
+        ("assume x : T\nassume x : F\ngoal T", ", line 2", "the name x stands on an earlier line"),
+        ("assume x-y : T\ngoal T", ", line 1", "A-Z, a-z, 0-9 and _"),
+        (NAMES_OVER + "\ngoal T", "", "at most 64 assumptions, not 65"),
+        ("word 0..4095 = p0\ngoal T", "", "at most 4096 formulas, not 4097"),
+        ("assume x : T", "", "one goal, not 0"),
+        ("goal T\ngoal F", "", "one goal, not 2"),
+        ("word 0 = T\nword 1 = 8\ngoal @0", ", line 2", "kind 8"),
+        ("word 0 = 16\ngoal @0", ", line 1", "T has zero fields, not 1 and 0"),
+        ("word 0 = 0x40002\ngoal @0", ", line 1", "0 at right, not 1"),
+        ("word 0 = 3\ngoal @0", ", line 1", "words below it, not @0 and @0"),
+    ],
+}
+
+
 class Faults(unittest.TestCase):
     def said(self, text, place, part):
         told = fault_of(text)
@@ -91,50 +141,11 @@ class Faults(unittest.TestCase):
         self.assertTrue(told.startswith("LIST" + place + ": "), told)
         self.assertIn(part, told)
 
-    def test_formulas(self):
-        self.said("goal", ", line 1, column 5", "here comes a formula")
-        self.said("\ngoal q", ", line 2, column 6", "'q' is no formula")
-        self.said("goal p16384", ", line 1, column 6", "over 16383")
-        self.said("goal p01", ", line 1, column 6", "'p01' is no formula")
-        self.said("goal (p0 p1)", ", line 1, column 7", "after ( comes &, | or >, not 'p0'")
-        self.said("goal (& p0", ", line 1, column 11", "the ) of the bracket of column 6")
-        self.said("goal (& p0)", ", line 1, column 11", "the bracket of column 6 has 1")
-        self.said("goal (& p0 p1 T)", ", line 1, column 16", "the bracket of column 6 has 3")
-        self.said("goal p0)", ", line 1, column 8", "the line should end before ')'")
-        self.said("goal )", ", line 1, column 6", "closes no bracket")
-        self.said("goal @0", ", line 1, column 6", "no word line gives @0")
-
-    def test_lines(self):
-        self.said("gaol p0", ", line 1, column 1", "'gaol' is none of assume, goal")
-        self.said("assume x p0", ", line 1, column 10", "here comes :")
-        self.said("assume : p0", ", line 1, column 8", "here comes a name, not ':'")
-        self.said('assume "x : p0', ", line 1, column 8", "a name in quotes")
-        self.said("let p0 = T", ", line 1, column 5", "'p0' is no name")
-        self.said("let a = T\nlet a = F", ", line 2, column 5", "already")
-        self.said("goal T\nword 0 = T", ", line 2, column 1", "come before")
-        self.said("word 1 = T", ", line 1, column 6", "the next word, 0")
-        self.said("word 0 = (> T F)", ", line 1, column 10", "a sign over two words")
-        self.said("word 0 = 0x100000000", ", line 1, column 10", "over 4294967295")
-        self.said("after 0", ", line 1, column 7", "two hexadecimal digits")
-        self.said("goal T\nafter 00", "", "unchecked")
-
-    def test_what_a_file_cannot_hold(self):
-        self.said("unchecked\nassume %s : T" % ("n" * 256), ", line 2, column 8", "256 bytes, 255 are the most")
-        self.said("unchecked\nword 0..65535 = T\ngoal T", ", line 2, column 6", "over 65534")
-
-    def test_what_the_program_refuses(self):
-        self.said("assume x : T\nassume %s : T\ngoal T" % ("n" * 33), ", line 2", "1 to 32 bytes, not 33")
-        self.said('assume "" : T\ngoal T', ", line 1", "1 to 32 bytes, not 0")
-        self.said("assume x : T\nassume x : F\ngoal T", ", line 2", "the name x stands on an earlier line")
-        self.said("assume x-y : T\ngoal T", ", line 1", "A-Z, a-z, 0-9 and _")
-        self.said(NAMES_OVER + "\ngoal T", "", "at most 64 assumptions, not 65")
-        self.said("word 0..4095 = p0\ngoal T", "", "at most 4096 formulas, not 4097")
-        self.said("assume x : T", "", "one goal, not 0")
-        self.said("goal T\ngoal F", "", "one goal, not 2")
-        self.said("word 0 = T\nword 1 = 8\ngoal @0", ", line 2", "kind 8")
-        self.said("word 0 = 16\ngoal @0", ", line 1", "T has zero fields, not 1 and 0")
-        self.said("word 0 = 0x40002\ngoal @0", ", line 1", "0 at right, not 1")
-        self.said("word 0 = 3\ngoal @0", ", line 1", "words below it, not @0 and @0")
+    def test_each_is_told_with_its_place(self):
+        for wrong, rows in FAULTS.items():
+            for text, place, part in rows:
+                with self.subTest(wrong, text=text):
+                    self.said(text, place, part)
 
 
 class RoundTrips(unittest.TestCase):
