@@ -1,6 +1,7 @@
-//! The proved calls as another language calls them, fed as the model is: what the program prints for a house file, or with --status the
-//! status of its goal, the assumptions left out.
+//! The proved calls as another language calls them, fed as the model is: what the program prints for a house file; with --status the
+//! status of its goal, the assumptions left out; with --time the nanoseconds that the first call takes, from bytes to bytes.
 mod feed;
+mod timing;
 
 use std::io;
 
@@ -22,13 +23,23 @@ extern "C" {
     ) -> usize;
 }
 
+/// Prints into the array, and tells how many bytes.
+fn output(file: &[u8], out: &mut [u8; ROOM]) -> usize {
+    // the file and the array are whole and apart, as the call takes them
+    unsafe { quaysaffron_output(file.as_ptr(), file.len(), out) }
+}
+
 /// The printed bytes, from an array full of junk; behind them every byte must be zero.
 fn printed(file: &[u8]) -> Vec<u8> {
     let mut out = [0xaa; ROOM];
-    // the file and the array are whole and apart, as the call takes them
-    let length = unsafe { quaysaffron_output(file.as_ptr(), file.len(), &mut out) };
+    let length = output(file, &mut out);
     assert!(out[length..].iter().all(|byte| *byte == 0));
     out[..length].to_vec()
+}
+
+fn time(file: &[u8]) -> Vec<u8> {
+    let mut out = [0xaa; ROOM];
+    timing::nanoseconds(|| output(file, &mut out))
 }
 
 /// The status of the last index of a well-cut file, with the program's limits and slices full of junk; added words, term numbers and
@@ -73,6 +84,7 @@ fn main() -> io::Result<()> {
     let mut answer: fn(&[u8]) -> Vec<u8> = printed;
     let feed = feed::command_line(|option, _| match option {
         "--status" => answer = status,
+        "--time" => answer = time,
         _ => panic!("no option {option}"),
     });
     feed::on_a_stack(1 << 23, move || feed.answer(0, |_, file| answer(file)))
