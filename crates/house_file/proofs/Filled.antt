@@ -8,8 +8,7 @@ use lib.Seq.{take-append-seam}
 use Rattle.theory.specs.NameText.{padded}
 use Rattle.theory.specs.File as F
 use Rattle.claim.specs.Lent as L
-use Rattle.house_sections.specs.Held.{numbersFrom, indicesFrom, laidOver, entryBytes}
-use Rattle.house_file.specs.Output.{fileIn}
+use Rattle.house_sections.specs.Held.{numbersFrom, indicesFrom, laidOver, entryBytes, fileIn}
 
 -- as many words and indices as were asked for
 pub words-many : (k n : ℕ) (bs : List ℕ) → length (numbersFrom k n bs) ≡ n

@@ -15,9 +15,9 @@ use Rattle.theory.proofs.Fitted.{padded-length}
 use Rattle.claim.specs.declared.Outcome.{Outcome}
 use Rattle.claim.specs.Outcomes.{outcomeOf}
 use Rattle.claim.specs.Lent.{claimOf}
-use Rattle.house_sections.specs.Held.{numbersFrom, indicesFrom, textFrom, laidOver, heldBy, Seen}
+use Rattle.house_sections.specs.Held.{numbersFrom, indicesFrom, textFrom, laidOver, fileIn, heldBy, Seen}
 use Rattle.house_sections.specs.declared.Sections.the-variants.{BadFile as Bad, Held}
-use Rattle.house_file.specs.Output.{fileIn, Answers, linesFor, Printables}
+use Rattle.house_file.specs.Output.{Answers, linesFor, Printables}
 use Rattle.house_file.proofs.Lines.{lines-of, printables}
 use Rattle.house_file.proofs.Filled.{words-many, indices-many, laid-front, claim-is}
 

@@ -1,26 +1,16 @@
--- What the program makes of a tested file: the file in theory's words, the search's answer, and the lines of it. Assumes nothing.
-use Prim.Native.Nat.{ℕ, _+_, _*_}
+-- What the program makes of a tested file: the search's answer, and the lines of it. Assumes nothing.
+use Prim.Native.Nat.{ℕ}
 use mathlib.Core.Path.{_≡_}
-use mathlib.Core.List.{List, [], _∷_}
-use lib.ListN.{drop, replicate}
+use mathlib.Core.List.{List}
+use lib.ListN.{replicate}
 use Rattle.theory.specs.Call.{Claim, called}
 use Rattle.theory.specs.Writer.{written}
-use Rattle.theory.specs.File.{File, refusedLine, provedLines}
+use Rattle.theory.specs.File.{refusedLine, provedLines}
 use Rattle.claim.specs.declared.Outcome.{Outcome}
 use Rattle.claim.specs.declared.Outcome.the-variants.{Proved, Unprovable, Short, Refused}
 use Rattle.claim.specs.Outcomes.{outcomeOf}
 use Rattle.house_text.specs.Tested.{draft}
 use Rattle.house_lines.specs.Lines.{Printable, unprovableLines}
-use Rattle.house_sections.specs.Held.{numbersFrom, indicesFrom, textFrom}
-
--- the file that the sections found in the bytes make, as `heldBy` of `house_sections` has it
-abbrev pub fileIn : ℕ → ℕ → ℕ → List ℕ → File
-fileIn formulas assumptions goal bs = record {
-  words = numbersFrom 4 formulas (drop 2 bs);
-  indices = indicesFrom assumptions (drop (4 + 4 * formulas) bs);
-  text = textFrom assumptions (drop (4 + 4 * formulas) bs);
-  goals = goal ∷ [];
-}
 
 -- o is the outcome of the claim x, and f and t are its words and term numbers afterwards
 pub record Answers (x : Claim) (o : Outcome) (f t : List ℕ) : Type 0 where

@@ -9,8 +9,8 @@ ghost use Rattle.theory.specs.File.{decoded, provedLines, goalLines, printed};
 ghost use Rattle.claim.specs.Lent.{claimOf};
 ghost use Rattle.house_text.specs.Tested.{draft};
 ghost use Rattle.house_lines.specs.Lines.{Printable};
-ghost use Rattle.house_sections.specs.Held.{Seen};
-ghost use Rattle.house_file.specs.Output.{fileIn, Answers, linesFor, Printables};
+ghost use Rattle.house_sections.specs.Held.{fileIn, Seen};
+ghost use Rattle.house_file.specs.Output.{Answers, linesFor, Printables};
 use claim::Outcome;
 use house_sections::Sections;
 

@@ -58,15 +58,18 @@ goalIn bs =
       ]
     ]
 
--- the file that the sections make of the bytes
-unfoldable pub heldBy : Sections → List ℕ → Option File
-heldBy BadFile bs = none
-heldBy (Held formulas assumptions goal) bs = some (record {
+-- the file that the sections make of the bytes, by their counts and the goal
+abbrev pub fileIn : ℕ → ℕ → ℕ → List ℕ → File
+fileIn formulas assumptions goal bs = record {
   words = numbersFrom 4 formulas (drop 2 bs);
   indices = indicesFrom assumptions (drop (4 + 4 * formulas) bs);
   text = textFrom assumptions (drop (4 + 4 * formulas) bs);
   goals = goal ∷ [];
-})
+}
+
+unfoldable pub heldBy : Sections → List ℕ → Option File
+heldBy BadFile bs = none
+heldBy (Held formulas assumptions goal) bs = some (fileIn formulas assumptions goal bs)
 
 -- what the tests saw of sections that are held: their counts, and that they are whole
 pub record Seen (formulas assumptions : ℕ) (bs : List ℕ) : Type 0 where
