@@ -14,11 +14,11 @@ use Rattle.theory.specs.Refusal.{Refused, Fault, faultNumber, lackNumber}
 use Rattle.theory.specs.Meter as M
 use Rattle.theory.specs.Meter.{Lack}
 use Rattle.theory.specs.Call as C
-use Rattle.theory.specs.Call.{Claim, After}
+use Rattle.theory.specs.Call.{Claim, called}
 use Rattle.theory.specs.Term.{Term}
-use Rattle.theory.specs.Writer.{Draft, writerRefusal, drafted, termDepth, textFitted, notWritten, written}
+use Rattle.theory.specs.Writer.{Draft, draftAfter, writerRefusal, drafted, termDepth, textFitted, notWritten, written}
 use Rattle.theory.specs.Text.{termText}
-use Rattle.theory.specs.File.{File, draftOf, refusedLine, provedLines, answerLines}
+use Rattle.theory.specs.File.{refusedLine, provedLines, answerLines}
 use Rattle.theory.specs.NameText.{namesIn, padded}
 use Rattle.theory.specs.Owed.{FitIn}
 use Rattle.theory.proofs.CallClaims.{written-front}
@@ -28,13 +28,13 @@ use Rattle.house_lines.specs.Lines.{Printable, unprovableLines, provedWith}
 use Rattle.house_file.specs.Output.{linesFor, Printables}
 
 -- each answer's lines are theory's
-pub lines-of : (x : File) (a : After) (o : C.Outcome) →
-    linesFor (outcomeOf o) (a .words) (a .terms) (length (x .indices)) (x .text) ≡ answerLines x a o
-unfolding linesFor outcomeOf answerLines draftOf unprovableLines
-lines-of x a (C.proved r n u f t) = refl
-lines-of x a (C.unprovable n u f t) = refl
-lines-of x a (C.shortage l n) = refl
-lines-of x a (C.refused f i) = refl
+pub lines-of : (x : Claim) (o : C.Outcome) →
+    linesFor (outcomeOf o) ((called x) .words) ((called x) .terms) (length (x .assumed)) (x .text) ≡ answerLines x o
+unfolding linesFor outcomeOf answerLines draftAfter unprovableLines
+lines-of x (C.proved r n u f t) = refl
+lines-of x (C.unprovable n u f t) = refl
+lines-of x (C.shortage l n) = refl
+lines-of x (C.refused f i) = refl
 
 -- the table's numbers have at most two digits
 pub fault-small : (f : Fault) → Printable (faultNumber f)
@@ -111,17 +111,15 @@ module _ (x : Draft) (size number : ℕ) (buffer : List ℕ) (h : Hands (written
     abbrev byNumber : Bool → List ℕ
     byNumber b = elim b [ true ↦ provedWith n u f t ((written x) .part) | false ↦ refusedLine ((written x) .number) ]
 
-    lines-by : provedLines n u f t (written x) ≡ byNumber (eqb ((written x) .number) 0)
-    unfolding provedLines provedWith
-    lines-by = refl
-
     pub lines-written : number ≡ 0 → provedLines n u f t (written x) ≡ provedWith n u f t (take size buffer)
+    unfolding provedLines provedWith
     lines-written e =
-        lines-by ∙ ap byNumber (eq-eqb ((written x) .number) 0 (sym (h .number-is) ∙ e)) ∙ ap (provedWith n u f t) (sym text-is)
+        ap byNumber (eq-eqb ((written x) .number) 0 (sym (h .number-is) ∙ e)) ∙ ap (provedWith n u f t) (sym text-is)
 
     pub lines-refused : (number ≡ 0 → ⊥) → provedLines n u f t (written x) ≡ refusedLine number
+    unfolding provedLines provedWith
     lines-refused e =
-        lines-by ∙ ap byNumber (ne-eqb ((written x) .number) 0 (λ p. e (h .number-is ∙ p))) ∙ ap refusedLine (sym (h .number-is))
+        ap byNumber (ne-eqb ((written x) .number) 0 (λ p. e (h .number-is ∙ p))) ∙ ap refusedLine (sym (h .number-is))
 
   pub refused-small : Printable number
   refused-small = subst Printable (sym (h .number-is)) (number-small x)

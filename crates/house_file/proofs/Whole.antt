@@ -48,14 +48,14 @@ module _ (n m goal : ℕ) (bs : List ℕ) (o : Outcome) (f t text : List ℕ) wh
 
   module _ (a : Answers (F.claimOf file goal) o f t) where
     pub lines-are : text ≡ file .text → linesFor o f t m text ≡ goalLines file goal
-    unfolding goalLines
+    unfolding goalLines F.claimOf
     lines-are e =
         let x = F.claimOf file goal in
         ap (λ (v : Outcome). linesFor v f t m text) (a .outcome)
         ∙ ap₂ (λ (w k : List ℕ). linesFor (outcomeOf ((called x) .outcome)) w k m text) (a .words) (a .terms)
         ∙ ap₂ (λ (k : ℕ) (s : List ℕ). linesFor (outcomeOf ((called x) .outcome)) ((called x) .words) ((called x) .terms) k s)
         (sym (indices-many m (drop (4 + 4 * n) bs))) e
-        ∙ lines-of file (called x) ((called x) .outcome)
+        ∙ lines-of x ((called x) .outcome)
 
     pub all-printable : Seen n m bs → Printables o
     unfolding F.claimOf

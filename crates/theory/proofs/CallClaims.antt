@@ -21,11 +21,11 @@ use Rattle.theory.specs.Text.{termText}
 use Rattle.theory.specs.Refusal.{Fault, Sizes, Refused, badAssumption}
 use Rattle.theory.specs.Call.{Claim, givenWords, givenBook, refusal, searchLimits, searched, proved, unprovable, shortage, refused}
 use Rattle.theory.specs.Call.{After, recordsAfter, givenBack, unchanged, answered, called}
-use Rattle.theory.specs.Writer.{termDepth, Draft, writerRefusal, drafted, notWritten, written}
+use Rattle.theory.specs.Writer.{termDepth, Draft, draftAfter, writerRefusal, drafted, notWritten, written}
 use Rattle.theory.specs.Status.{rejected, Inquiry, firstClaim, secondClaim, secondOutcome, cleanedUp, asked}
-use Rattle.theory.specs.File.{File, decoded, claimOf, draftOf, printed}
+use Rattle.theory.specs.File.{File, decoded, claimOf, printed}
 use Rattle.theory.specs.Places.{LowestWord, FirstOutside, FirstFaulty, LowestNode}
-use Rattle.theory.specs.Owed.{Faulty, Bounds, ZeroAbove, Grown, FitIn, Decided, draftAfter, Says, Passes}
+use Rattle.theory.specs.Owed.{Faulty, Bounds, ZeroAbove, Grown, FitIn, Decided, Says, Passes}
 use Rattle.theory.proofs.Written.{one-log-only}
 use Rattle.theory.proofs.Passing.{passes}
 use Rattle.theory.proofs.Called
@@ -264,14 +264,9 @@ module _ (x : Inquiry) where
 pub file-bounded : (bs : List ℕ) (x : File) → decoded bs ≡ some x → Bounds x
 file-bounded = FileRead.file-bounded
 
--- the program answers no 1 to a file that decodes, and 12 alone where a proved term is not written
+-- the program answers no 1 to a file that decodes
 pub program-sizes : (bs : List ℕ) (x : File) → decoded bs ≡ some x → (goal i : ℕ) → (called (claimOf x goal)) .outcome ≢ refused Sizes i
 program-sizes = Printed.program-sizes
-
-pub program-writes : (x : File) (goal : ℕ) {r n u f t : ℕ} → (called (claimOf x goal)) .outcome ≡ proved r n u f t →
-    ((written (draftOf x (called (claimOf x goal)) r f t)) .number ≡ 0) ⊎
-    ((written (draftOf x (called (claimOf x goal)) r f t)) .number ≡ 12)
-program-writes = Printed.program-writes
 
 -- whatever it prints has room in 32,835 bytes
 pub printed-length : (bs : List ℕ) → length (printed bs) ≤ 32835

@@ -1,26 +1,25 @@
--- What the program prints: it has room in a buffer of a fixed size, and answers neither 1 nor 13. Assumes nothing.
+-- What the program prints: it has room in a buffer of a fixed size, and is never 1. Assumes nothing.
 use Prim.Native.Nat.{ℕ, zero, suc, _+_, _*_, _/_, _%_, _≤_}
 use mathlib.Core.Path.{_≡_, refl, subst}
 use mathlib.Core.Bool.{Bool, true, false}
 use mathlib.Core.Option.{Option, none, some}
-use mathlib.Core.Logic.{_≢_, _⊎_}
+use mathlib.Core.Logic.{_≢_}
 use mathlib.Core.List.{List, [], _∷_, _++_}
 use native.Mathlib.Nat.{le-trans}
 use native.Mathlib.Omega.{arith}
 use lib.Dec.{T, ltb, eqb}
-use lib.ListN.{length, length-append, length-replicate}
+use lib.ListN.{length, replicate, length-append, length-replicate}
 use Rattle.theory.specs.NameText.{Written}
 use Rattle.theory.specs.Text.{bytes, digits}
 use Rattle.theory.specs.Refusal.{Sizes, BadFile, faultNumber, lackNumber}
-use Rattle.theory.specs.Call.{Outcome, proved, unprovable, shortage, refused, After, called}
-use Rattle.theory.specs.Writer.{written}
-use Rattle.theory.specs.File.{File, decoded, claimOf, draftOf, line, counted, refusedLine, provedLines, answerLines, goalLines}
-use Rattle.theory.specs.File.{allLines, printed}
-use Rattle.theory.specs.Owed.{draftAfter}
-use Rattle.theory.proofs.Writes.{written-front, buffer-length, writes-or-12, draft-passes}
+use Rattle.theory.specs.Call.{Claim, Outcome, proved, unprovable, shortage, refused, called}
+use Rattle.theory.specs.Writer.{draftAfter, written}
+use Rattle.theory.specs.File.{File, decoded, claimOf, line, counted, refusedLine, provedLines}
+use Rattle.theory.specs.File.{answerLines, goalLines, allLines, printed}
+use Rattle.theory.proofs.Writes.{written-front, buffer-length}
 use Rattle.theory.proofs.FileRead.{file-bounded, file-sizes}
 use Rattle.theory.proofs.Faults.{refused-says}
-use Rattle.theory.proofs.Called.{is-refused, proves}
+use Rattle.theory.proofs.Called.{is-refused}
 
 digits-length : (k n : ℕ) → length (digits k n) ≤ k
 unfolding digits
@@ -83,20 +82,20 @@ proved-length n u f t w h = go (eqb (w .number) 0)
         )
 
 -- the lines of one answer
-answer-length : (x : File) (a : After) (o : Outcome) → length (answerLines x a o) ≤ 32835
-unfolding answerLines draftOf bytes
-answer-length x a (proved r n u f t) =
-    proved-length n u f t (written (draftOf x a r f t))
-    (omega (arith, (written-front (draftOf x a r f t)) .long, buffer-length (draftOf x a r f t), length-replicate {A = ℕ} 32768 0))
-answer-length x a (unprovable n u f t) =
+answer-length : (x : Claim) (o : Outcome) → length (answerLines x o) ≤ 32835
+unfolding answerLines draftAfter bytes
+answer-length x (proved r n u f t) =
+    let d = draftAfter x r f t (replicate 32768 0) in
+    proved-length n u f t (written d) (omega (arith, (written-front d) .long, buffer-length d, length-replicate {A = ℕ} 32768 0))
+answer-length x (unprovable n u f t) =
     omega (
       arith,
       length-append (line (bytes "unprovable")) (counted (bytes "steps ") n),
       line-length (bytes "unprovable"),
       counted-length (bytes "steps ") n,
     )
-answer-length x a (shortage l n) = le-trans (refused-length (lackNumber l)) (omega arith)
-answer-length x a (refused f i) = le-trans (refused-length (faultNumber f)) (omega arith)
+answer-length x (shortage l n) = le-trans (refused-length (lackNumber l)) (omega arith)
+answer-length x (refused f i) = le-trans (refused-length (faultNumber f)) (omega arith)
 
 -- of all goals together
 lines-length : (x : File) (gs : List ℕ) → length (allLines x gs) ≤ length gs * 32835
@@ -106,7 +105,7 @@ lines-length x (g ∷ gs) =
     omega (
       arith,
       length-append (goalLines x g) (allLines x gs),
-      answer-length x (called (claimOf x g)) ((called (claimOf x g)) .outcome),
+      answer-length (claimOf x g) ((called (claimOf x g)) .outcome),
       lines-length x gs,
     )
 
@@ -125,12 +124,3 @@ pub program-sizes : (bs : List ℕ) (x : File) → decoded bs ≡ some x → (go
 program-sizes bs x e goal i q =
     let says = refused-says (claimOf x goal) (record { fault = Sizes; place = i }) ((is-refused (claimOf x goal) q) .is) in
     subst T (says .0) (file-sizes x goal (file-bounded bs x e))
-
--- what it proves is written or is 12, never 1 to 4 nor 13
-pub program-writes : (x : File) (goal : ℕ) {r n u f t : ℕ} → (called (claimOf x goal)) .outcome ≡ proved r n u f t →
-    ((written (draftOf x (called (claimOf x goal)) r f t)) .number ≡ 0) ⊎
-    ((written (draftOf x (called (claimOf x goal)) r f t)) .number ≡ 12)
-unfolding draftOf draftAfter claimOf
-program-writes x goal {r} {n} {u} {f} {t} e =
-    writes-or-12 (draftOf x (called (claimOf x goal)) r f t)
-    (draft-passes (claimOf x goal) (proves (claimOf x goal) e) ((draftOf x (called (claimOf x goal)) r f t) .buffer))

@@ -15,9 +15,9 @@ use Rattle.theory.specs.Meter.{boundless, Limits, Answer}
 use Rattle.theory.specs.Log.{IsShort}
 use Rattle.theory.specs.Written.{AllIn, Answers}
 use Rattle.theory.specs.Call.{Claim, proved, unprovable, called}
-use Rattle.theory.specs.Writer.{drafted, written}
+use Rattle.theory.specs.Writer.{draftAfter, drafted, written}
 use Rattle.theory.specs.Status.{Verdict, settled, Inquiry, firstClaim, secondOutcome, goalIsOpen, asked}
-use Rattle.theory.specs.Owed.{draftAfter, asksFor}
+use Rattle.theory.specs.Owed.{asksFor}
 use Rattle.theory.specs.RustNames.{generate}
 use Rattle.theory.specs.RustTerm.{ProofTerm, named}
 use Rattle.theory.specs.RustText.{houseText}

@@ -16,9 +16,9 @@ use Rattle.theory.specs.Names.{spell}
 use Rattle.theory.specs.Layout.{nodeWidth}
 use Rattle.theory.specs.Text.{termText}
 use Rattle.theory.specs.Refusal.{Sizes, BadFormula, BadAssumption, BadNames, BadTerm, Refused, formulaSizes, termSizes, nodeSizes}
-use Rattle.theory.specs.Writer.{termDepth, Draft, writerRefusal, drafted, textFitted, notWritten, written}
+use Rattle.theory.specs.Writer.{termDepth, Draft, draftAfter, writerRefusal, drafted, textFitted, notWritten, written}
 use Rattle.theory.specs.Call.{Claim, called}
-use Rattle.theory.specs.Owed.{draftAfter, Passes}
+use Rattle.theory.specs.Owed.{Passes}
 use Rattle.theory.proofs.Tests.{and-T}
 use Rattle.theory.proofs.Fitted.{Front, whole, whole-front, emptied-front, padded-length}
 use Rattle.theory.proofs.Passing.{none-or, none-fault, none-unless, few-enough, term-part, passes}

@@ -8,9 +8,9 @@ use lib.Dec.{leb, eqb}
 use Rattle.theory.specs.NameText.{padded, Written}
 use Rattle.theory.specs.Layout.{nodeWidth}
 use Rattle.theory.specs.Refusal.{BadFile, faultNumber, lackNumber}
-use Rattle.theory.specs.Call.{Claim, Outcome, proved, unprovable, shortage, refused, After, called}
+use Rattle.theory.specs.Call.{Claim, Outcome, proved, unprovable, shortage, refused, called}
 use Rattle.theory.specs.Text.{bytes, decimal}
-use Rattle.theory.specs.Writer.{Draft, written}
+use Rattle.theory.specs.Writer.{draftAfter, written}
 
 -- "little-endian": the number of some bytes
 unfoldable pub littleEndian : List ℕ → ℕ
@@ -127,18 +127,6 @@ claimOf x goal = record {
   stepLimit = 1000000;
 }
 
-unfoldable pub draftOf : File → After → ℕ → ℕ → ℕ → Draft
-draftOf x a root formulas nodes = record {
-  words = a .words;
-  count = formulas;
-  assumptions = length (x .indices);
-  text = x .text;
-  terms = a .terms;
-  nodes = nodes;
-  root = root;
-  buffer = replicate 32768 0;
-}
-
 -- a line ends with a newline
 unfoldable pub line : List ℕ → List ℕ
 line bs = bs ++ (10 ∷ [])
@@ -158,15 +146,15 @@ provedLines n u f t w =
       | false ↦ refusedLine (w .number)
     ]
 
--- the lines of one answer
-unfoldable pub answerLines : File → After → Outcome → List ℕ
-answerLines x a (proved r n u f t) = provedLines n u f t (written (draftOf x a r f t))
-answerLines x a (unprovable n u f t) = line (bytes "unprovable") ++ counted (bytes "steps ") n
-answerLines x a (shortage l n) = refusedLine (lackNumber l)
-answerLines x a (refused f i) = refusedLine (faultNumber f)
+-- the lines of one answer, with 32,768 bytes lent for its text
+unfoldable pub answerLines : Claim → Outcome → List ℕ
+answerLines x (proved r n u f t) = provedLines n u f t (written (draftAfter x r f t (replicate 32768 0)))
+answerLines x (unprovable n u f t) = line (bytes "unprovable") ++ counted (bytes "steps ") n
+answerLines x (shortage l n) = refusedLine (lackNumber l)
+answerLines x (refused f i) = refusedLine (faultNumber f)
 
 unfoldable pub goalLines : File → ℕ → List ℕ
-goalLines x goal = answerLines x (called (claimOf x goal)) (called (claimOf x goal) .outcome)
+goalLines x goal = answerLines (claimOf x goal) (called (claimOf x goal) .outcome)
 
 -- the goals of a file one after another
 unfoldable pub allLines : File → List ℕ → List ℕ

@@ -14,7 +14,6 @@ use Rattle.theory.specs.Term.{Term, Derives}
 use Rattle.theory.specs.Layout.{nodeWidth}
 use Rattle.theory.specs.Refusal.{Fault, Sizes, BadFormula, BadAssumption, BadNames, BadGoal, NoRoom, BadTerm, BadFile, badAssumption}
 use Rattle.theory.specs.Call.{Claim, rightSizes, givenWords, givenBook, Outcome, proved, unprovable, shortage, refused, After, called}
-use Rattle.theory.specs.Writer.{Draft}
 use Rattle.theory.specs.File.{File}
 use Rattle.theory.specs.Status.{Solvable, Unsolvable, Unknown, Status, settled, ranShort, rejected, Inquiry, firstClaim, goalIsOpen}
 
@@ -84,19 +83,6 @@ FitIn x (refused f i) = Unit {0}
 pub data Decided : Outcome → Type 0 where
   isProved : {r n u f t : ℕ} → Decided (proved r n u f t)
   isUnprovable : {n u f t : ℕ} → Decided (unprovable n u f t)
-
--- what a proved call leaves, handed to the writer with a buffer
-unfoldable pub draftAfter : Claim → ℕ → ℕ → ℕ → List ℕ → Draft
-draftAfter x root formulas nodes buffer = record {
-  words = (called x) .words;
-  count = formulas;
-  assumptions = length (x .assumed);
-  text = x .text;
-  terms = (called x) .terms;
-  nodes = nodes;
-  root = root;
-  buffer = buffer;
-}
 
 -- the formula that a status is asked for
 abbrev pub asksFor : Inquiry → Form

@@ -11,6 +11,7 @@ use Rattle.theory.specs.NameText.{namesIn, badName, Written, emptied, fi
 use Rattle.theory.specs.Layout.{nodesIn, badTerm}
 use Rattle.theory.specs.Refusal.{Sizes, BadFormula, BadAssumption, BadNames, BadTerm, Refused, faultAt, orElse, unless, faultNumber}
 use Rattle.theory.specs.Refusal.{formulaSizes, nodeSizes, tooMany}
+use Rattle.theory.specs.Call.{Claim, called}
 use Rattle.theory.specs.Text.{termText}
 
 unfoldable pub larger : ℕ → ℕ → ℕ
@@ -51,6 +52,19 @@ pub record Draft : Type 0 where
   pub nodes : ℕ
   pub root : ℕ
   pub buffer : List ℕ
+
+-- what a proved call leaves, handed to the writer with a buffer
+unfoldable pub draftAfter : Claim → ℕ → ℕ → ℕ → List ℕ → Draft
+draftAfter x root formulas nodes buffer = record {
+  words = (called x) .words;
+  count = formulas;
+  assumptions = length (x .assumed);
+  text = x .text;
+  terms = (called x) .terms;
+  nodes = nodes;
+  root = root;
+  buffer = buffer;
+}
 
 -- "The text writer tests 1, 2, 3 (the count alone), 4, 13, 12 in that order"
 unfoldable pub writerRefusal : Draft → Option Refused
