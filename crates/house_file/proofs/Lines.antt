@@ -18,19 +18,19 @@ use Rattle.theory.specs.Call.{Claim, called}
 use Rattle.theory.specs.Term.{Term}
 use Rattle.theory.specs.Writer.{Draft, draftAfter, writerRefusal, drafted, termDepth, textFitted, notWritten, written}
 use Rattle.theory.specs.Text.{termText}
-use Rattle.theory.specs.File.{refusedLine, provedLines, answerLines}
+use Rattle.theory.specs.File.{refusedLine, provedWith, provedLines, answerLines}
 use Rattle.theory.specs.NameText.{namesIn, padded}
 use Rattle.theory.specs.Owed.{FitIn}
 use Rattle.theory.proofs.CallClaims.{written-front}
 use Rattle.claim.specs.Outcomes.{outcomeOf}
 use Rattle.identifier_generator.specs.Handed.{Hands}
-use Rattle.house_lines.specs.Lines.{Printable, unprovableLines, provedWith}
+use Rattle.house_lines.specs.Lines.{Printable}
 use Rattle.house_file.specs.Output.{linesFor, Printables}
 
 -- each answer's lines are theory's
 pub lines-of : (x : Claim) (o : C.Outcome) →
     linesFor (outcomeOf o) ((called x) .words) ((called x) .terms) (length (x .assumed)) (x .text) ≡ answerLines x o
-unfolding linesFor outcomeOf answerLines draftAfter unprovableLines
+unfolding linesFor outcomeOf answerLines draftAfter
 lines-of x (C.proved r n u f t) = refl
 lines-of x (C.unprovable n u f t) = refl
 lines-of x (C.shortage l n) = refl
@@ -112,12 +112,12 @@ module _ (x : Draft) (size number : ℕ) (buffer : List ℕ) (h : Hands (written
     byNumber b = elim b [ true ↦ provedWith n u f t ((written x) .part) | false ↦ refusedLine ((written x) .number) ]
 
     pub lines-written : number ≡ 0 → provedLines n u f t (written x) ≡ provedWith n u f t (take size buffer)
-    unfolding provedLines provedWith
+    unfolding provedLines
     lines-written e =
         ap byNumber (eq-eqb ((written x) .number) 0 (sym (h .number-is) ∙ e)) ∙ ap (provedWith n u f t) (sym text-is)
 
     pub lines-refused : (number ≡ 0 → ⊥) → provedLines n u f t (written x) ≡ refusedLine number
-    unfolding provedLines provedWith
+    unfolding provedLines
     lines-refused e =
         ap byNumber (ne-eqb ((written x) .number) 0 (λ p. e (h .number-is ∙ p))) ∙ ap refusedLine (sym (h .number-is))
 

@@ -5,12 +5,12 @@ use mathlib.Core.List.{List}
 use lib.ListN.{replicate}
 use Rattle.theory.specs.Call.{Claim, called}
 use Rattle.theory.specs.Writer.{written}
-use Rattle.theory.specs.File.{refusedLine, provedLines}
+use Rattle.theory.specs.File.{refusedLine, unprovableLines, provedLines}
 use Rattle.claim.specs.declared.Outcome.{Outcome}
 use Rattle.claim.specs.declared.Outcome.the-variants.{Proved, Unprovable, Short, Refused}
 use Rattle.claim.specs.Outcomes.{outcomeOf}
 use Rattle.house_text.specs.Tested.{draft}
-use Rattle.house_lines.specs.Lines.{Printable, unprovableLines}
+use Rattle.house_lines.specs.Lines.{Printable}
 
 -- o is the outcome of the claim x, and f and t are its words and term numbers afterwards
 pub record Answers (x : Claim) (o : Outcome) (f t : List ℕ) : Type 0 where

@@ -14,7 +14,7 @@ use Rattle.theory.specs.Text.{bytes, digits}
 use Rattle.theory.specs.Refusal.{Sizes, BadFile, faultNumber, lackNumber}
 use Rattle.theory.specs.Call.{Claim, Outcome, proved, unprovable, shortage, refused, called}
 use Rattle.theory.specs.Writer.{draftAfter, written}
-use Rattle.theory.specs.File.{File, decoded, claimOf, line, counted, refusedLine, provedLines}
+use Rattle.theory.specs.File.{File, decoded, claimOf, line, counted, refusedLine, unprovableLines, provedWith, provedLines}
 use Rattle.theory.specs.File.{answerLines, goalLines, allLines, printed}
 use Rattle.theory.proofs.Writes.{written-front, buffer-length}
 use Rattle.theory.proofs.FileRead.{file-bounded, file-sizes}
@@ -45,7 +45,7 @@ unfolding refusedLine bytes
 refused-length n = counted-length (bytes "refused ") n
 
 proved-length : (n u f t : ℕ) (w : Written) → length (w .part) ≤ 32768 → length (provedLines n u f t w) ≤ 32835
-unfolding provedLines bytes
+unfolding provedLines provedWith bytes
 proved-length n u f t w h = go (eqb (w .number) 0)
   where
     text : List ℕ
@@ -83,7 +83,7 @@ proved-length n u f t w h = go (eqb (w .number) 0)
 
 -- the lines of one answer
 answer-length : (x : Claim) (o : Outcome) → length (answerLines x o) ≤ 32835
-unfolding answerLines draftAfter bytes
+unfolding answerLines draftAfter unprovableLines bytes
 answer-length x (proved r n u f t) =
     let d = draftAfter x r f t (replicate 32768 0) in
     proved-length n u f t (written d) (omega (arith, (written-front d) .long, buffer-length d, length-replicate {A = ℕ} 32768 0))

@@ -138,18 +138,25 @@ counted what n = line (what ++ decimal n)
 unfoldable pub refusedLine : ℕ → List ℕ
 refusedLine n = counted (bytes "refused ") n
 
+-- "or the lines "unprovable" and "steps N""
+unfoldable pub unprovableLines : ℕ → List ℕ
+unprovableLines n = line (bytes "unprovable") ++ counted (bytes "steps ") n
+
+-- "or as below": steps, generated indices used, formula fill, term fill, and the term's text
+unfoldable pub provedWith : ℕ → ℕ → ℕ → ℕ → List ℕ → List ℕ
+provedWith n u f t text =
+    line (bytes "proved") ++ (counted (bytes "steps ") n ++ (counted (bytes "names ") u
+    ++ (counted (bytes "formulas ") f ++ (counted (bytes "terms ") t ++ line text))))
+
+-- "(12 too)": a proved goal whose text is not written is refused
 unfoldable pub provedLines : ℕ → ℕ → ℕ → ℕ → Written → List ℕ
 provedLines n u f t w =
-    elim (eqb (w .number) 0) [
-      | true ↦ line (bytes "proved") ++ (counted (bytes "steps ") n ++ (counted (bytes "names ") u
-          ++ (counted (bytes "formulas ") f ++ (counted (bytes "terms ") t ++ line (w .part)))))
-      | false ↦ refusedLine (w .number)
-    ]
+    elim (eqb (w .number) 0) [ true ↦ provedWith n u f t (w .part) | false ↦ refusedLine (w .number) ]
 
 -- the lines of one answer, with 32,768 bytes lent for its text
 unfoldable pub answerLines : Claim → Outcome → List ℕ
 answerLines x (proved r n u f t) = provedLines n u f t (written (draftAfter x r f t (replicate 32768 0)))
-answerLines x (unprovable n u f t) = line (bytes "unprovable") ++ counted (bytes "steps ") n
+answerLines x (unprovable n u f t) = unprovableLines n
 answerLines x (shortage l n) = refusedLine (lackNumber l)
 answerLines x (refused f i) = refusedLine (faultNumber f)
 

@@ -1,8 +1,8 @@
 -- `lay_proved` lays six lines one behind the other. Assumes nothing.
 use Rattle.theory.specs.Text.{bytes}
+use Rattle.theory.specs.File.{provedWith}
 use Rattle.house_text.specs.Laid.{joined}
 use Rattle.house_text.proofs.Laying.{laid-then}
-use Rattle.house_lines.specs.Lines.{provedWith}
 use borrow.Author.Needs.{needs}
 use Rattle.house_lines.proofs.lay_proved.Statement.{statement}
 use Rattle.house_lines.proofs.lay_proved.Tie as tie

@@ -1,6 +1,6 @@
 -- `proved` lays its lines and clears the rest. Assumes nothing.
 use denote.Ref.{now}
-use Rattle.house_lines.specs.Lines.{provedWith}
+use Rattle.theory.specs.File.{provedWith}
 use Rattle.house_lines.proofs.Filling.{end-inside, end-is-size, filled}
 use borrow.Author.Needs.{needs}
 use Rattle.house_lines.proofs.proved.Statement.{statement}

@@ -1,8 +1,8 @@
 -- `unprovable` lays two lines and clears the rest. Assumes nothing.
 use Rattle.theory.specs.Text.{bytes}
+use Rattle.theory.specs.File.{unprovableLines}
 use Rattle.house_text.specs.Laid.{joined}
 use Rattle.house_text.proofs.Laying.{laid-then}
-use Rattle.house_lines.specs.Lines.{unprovableLines}
 use Rattle.house_lines.proofs.Filling.{end-inside, end-is-size, filled}
 use borrow.Author.Needs.{needs}
 use Rattle.house_lines.proofs.unprovable.Statement.{statement}
