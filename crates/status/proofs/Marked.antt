@@ -15,7 +15,7 @@ use Rattle.theory.specs.Form.{Below, Good}
 use Rattle.theory.specs.Status.{openForm}
 use Rattle.theory.proofs.Forms.{form-at, good-from}
 use Rattle.context.specs.Area.{Rec, none, zeroed, formulaAt}
-use Rattle.status.specs.Marks.{openLeaf, mark, partsMarked, openHere, someOpen}
+use Rattle.status.specs.Marks.{openByItself, mark, partsMarked, openHere, someOpen}
 
 -- the order of three tests does not matter, nor that one is asked twice
 swapped : (a b c : Bool) → a || (b || c) ≡ b || (a || c)
@@ -90,8 +90,8 @@ module _ (b : Book) where
       ∙ turned (isOpen l) (isOpen r) (someOpen b w n)
 
   -- no formula is open by itself and has parts too
-  open-tree : (s : Shape) → openLeaf s ≡ true → openForm (treeOf (trees b) s) ≡ true
-  unfolding openLeaf openForm treeOf
+  open-tree : (s : Shape) → openByItself s ≡ true → openForm (treeOf (trees b) s) ≡ true
+  unfolding openByItself openForm treeOf
   open-tree isTop e = e
   open-tree isBot e = e
   open-tree (isLeaf k s) e = e
@@ -100,9 +100,9 @@ module _ (b : Book) where
   open-tree (isImp l r) e = absurd (let z : _≡_ {A = ℕ} 0 1 = cc in omega arith)
 
   -- one that is not hands its mark to its parts
-  handed : (w : List Rec) (n : ℕ) → n ≤ length w → (s : Shape) → Below n s → openLeaf s ≡ false →
+  handed : (w : List Rec) (n : ℕ) → n ≤ length w → (s : Shape) → Below n s → openByItself s ≡ false →
       someOpen b (partsMarked s w) n ≡ openForm (treeOf (trees b) s) || someOpen b w n
-  unfolding openLeaf openForm treeOf partsMarked form
+  unfolding openByItself openForm treeOf partsMarked form
   handed w n k isTop h e = refl
   handed w n k isBot h e = refl
   handed w n k (isLeaf j s) h e = ap (λ (a : Bool). a || someOpen b w n) (sym e)
@@ -121,11 +121,11 @@ module _ (b : Book) where
         ∙ ap (λ (m : Bool). (not m && isOpen n) || someOpen b w n) (sym (ne-eqb (formulaAt w n) 0 marked))
 
     -- an open leaf settles it
-    pub at-open-leaf : openLeaf s ≡ true → true ≡ someOpen b w (suc n)
+    pub at-open-leaf : openByItself s ≡ true → true ≡ someOpen b w (suc n)
     at-open-leaf o = ap (λ (a : Bool). a || someOpen b w n) (sym (open-tree s o)) ∙ counts
 
     -- else its parts are asked in its place
-    pub past-marked : n ≤ length w → openLeaf s ≡ false → someOpen b (partsMarked s w) n ≡ someOpen b w (suc n)
+    pub past-marked : n ≤ length w → openByItself s ≡ false → someOpen b (partsMarked s w) n ≡ someOpen b w (suc n)
     past-marked k o =
         handed w n k s
         (subst (Below n) is (subst (λ (i : ℕ). Below i (look b n)) (zero-add n) (good-from b 0 g n inside))) o
@@ -184,11 +184,11 @@ module _ (f : List ℕ) (count from : ℕ) (w₀ : List Rec) (room : (from ≤ c
       inside : i - 1 < length (map shape (take count f))
       inside = omega (arith, below, given-long f count (room .1))
 
-      pub going-stops : true ≡ openLeaf (shape (getD f (i - 1) 0)) → true ≡ someOpen (map shape (take count f)) w₀ from
+      pub going-stops : true ≡ openByItself (shape (getD f (i - 1) 0)) → true ≡ someOpen (map shape (take count f)) w₀ from
       going-stops o =
           at-open-leaf (map shape (take count f)) g w (i - 1) inside marked (given-shape f count (i - 1) below) (sym o) ∙ before
 
-      pub going-on : {w1 : List Rec} → false ≡ openLeaf (shape (getD f (i - 1) 0)) → length w1 ≡ length w →
+      pub going-on : {w1 : List Rec} → false ≡ openByItself (shape (getD f (i - 1) 0)) → length w1 ≡ length w →
           w1 ≡ partsMarked (shape (getD f (i - 1) 0)) w → Going f count from w₀ w1 (i - 1)
       going-on {w1} o k e = record {
         long = k ∙ at .long;

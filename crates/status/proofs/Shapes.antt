@@ -8,17 +8,18 @@ use borrow.Author.Tests.{ne-eqb, lt-ltb}
 use lib.Dec.{leb, ltb}
 use lib.ListN.{set}
 use Rattle.theory.specs.Form.{shapeOf}
+use Rattle.theory.specs.Status.{openLeaf}
 use Rattle.context.specs.Area.{Rec}
-use Rattle.status.specs.Marks.{openLeaf, mark, partsMarked}
+use Rattle.status.specs.Marks.{openByItself, mark, partsMarked}
 
 -- an atom is open by its symbol
-pub atom-open : (k l r : ℕ) → k ≡ 2 → leb 8192 l ≡ openLeaf (shapeOf k l r)
-unfolding openLeaf shapeOf
-atom-open k l r e = subst (λ (n : ℕ). leb 8192 l ≡ openLeaf (shapeOf n l r)) (sym e) refl
+pub atom-open : (k l r : ℕ) → k ≡ 2 → leb 8192 l ≡ openByItself (shapeOf k l r)
+unfolding openByItself openLeaf shapeOf
+atom-open k l r e = subst (λ (n : ℕ). leb 8192 l ≡ openByItself (shapeOf n l r)) (sym e) refl
 
 -- any other word by its kind
-pub other-open : (k l r : ℕ) → (k ≡ 2 → ⊥) → ltb 5 k ≡ openLeaf (shapeOf k l r)
-unfolding openLeaf shapeOf
+pub other-open : (k l r : ℕ) → (k ≡ 2 → ⊥) → ltb 5 k ≡ openByItself (shapeOf k l r)
+unfolding openByItself openLeaf shapeOf
 other-open zero l r h = refl
 other-open (suc zero) l r h = refl
 other-open (suc (suc zero)) l r h = absurd (h refl)

@@ -4,19 +4,19 @@ use Prim.Native.Nat.{ℕ, zero, suc}
 use mathlib.Core.Bool.{Bool, false, _||_, _&&_, not}
 use mathlib.Core.List.{List}
 use lib.ListN.{set}
-use lib.Dec.{leb, eqb}
+use lib.Dec.{eqb}
 use Rattle.theory.specs.Form.{Shape, isTop, isBot, isLeaf, isAnd, isOr, isImp, Book, form}
-use Rattle.theory.specs.Status.{openForm}
+use Rattle.theory.specs.Status.{openLeaf, openForm}
 use Rattle.context.specs.Area.{Rec, rec, formulaAt}
 
--- "ForAll, Exists or free symbol": a leaf that is open by itself
-unfoldable pub openLeaf : Shape → Bool
-openLeaf isTop = false
-openLeaf isBot = false
-openLeaf (isLeaf k s) = not (eqb k 2) || leb 8192 s
-openLeaf (isAnd l r) = false
-openLeaf (isOr l r) = false
-openLeaf (isImp l r) = false
+-- a formula whose word alone tells that it is open: a leaf
+unfoldable pub openByItself : Shape → Bool
+openByItself isTop = false
+openByItself isBot = false
+openByItself (isLeaf k s) = openLeaf k s
+openByItself (isAnd l r) = false
+openByItself (isOr l r) = false
+openByItself (isImp l r) = false
 
 abbrev pub mark : Rec
 mark = rec 1 0

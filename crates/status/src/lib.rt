@@ -12,7 +12,7 @@ ghost use Rattle.theory.specs.Status.{openForm, refuted, firstClaim, secondOutc
 ghost use Rattle.context.specs.Area.{zeroed};
 ghost use Rattle.claim.specs.Lent.{claimOf};
 ghost use Rattle.claim.specs.Whole.{Called};
-ghost use Rattle.status.specs.Marks.{openLeaf, partsMarked, someOpen};
+ghost use Rattle.status.specs.Marks.{openByItself, partsMarked, someOpen};
 ghost use Rattle.status.specs.Answers.{statusOf, refutedAs};
 ghost use Rattle.status.specs.Whole.{inquiryOf, failedStatus, Answered};
 use claim::Outcome;
@@ -31,7 +31,7 @@ pub enum Status {
 
 // Whether a word is a ForAll, an Exists or an atom of a free symbol.
 fn open_leaf(word: u32) -> bool
-    ensures { λ r. ⌜ r ≡ openLeaf (shape word) ⌝ }
+    ensures { λ r. ⌜ r ≡ openByItself (shape word) ⌝ }
 {
     let kind = formula::kind_of(word);
     if kind == 2 {

@@ -11,10 +11,14 @@ use Rattle.theory.specs.Refusal.{Fault}
 use Rattle.theory.specs.Call.{Claim, givenWords, givenBook, Outcome, proved, unprovable, shortage, refused, Numbers, numbers, called}
 
 -- "ForAll, Exists or free symbol": "symbols from 8,192 up carry free parameters"
+unfoldable pub openLeaf : ℕ → ℕ → Bool
+openLeaf k s = not (eqb k 2) || leb 8192 s
+
+-- one of them occurs
 unfoldable pub openForm : Form → Bool
 openForm top = false
 openForm bot = false
-openForm (leaf k s) = not (eqb k 2) || leb 8192 s
+openForm (leaf k s) = openLeaf k s
 openForm (and A B) = openForm A || openForm B
 openForm (or A B) = openForm A || openForm B
 openForm (imp A B) = openForm A || openForm B

@@ -5,7 +5,7 @@ use Prim.Native.Nat.{ℕ}
 use mathlib.Core.Path.{sym, ap, _∙_}
 use denote.Ref.{now}
 use Rattle.theory.specs.Form.{shape}
-use Rattle.status.specs.Marks.{openLeaf}
+use Rattle.status.specs.Marks.{openByItself}
 use Rattle.status.proofs.Marked.{Going, going-starts, going-past, going-stops, going-on, going-ends}
 use Rattle.status.proofs.marked_open.Statement.{statement}
 use Rattle.status.proofs.marked_open.Tie as tie
@@ -43,7 +43,7 @@ returns c =
     let a = s .args in
     going-stops (now (a .f)) (a .count) (a .from) (now (a .w)) (s .pre .0) (s .pre .1) (at .before .loop .inv) (at .loop-test .taken)
     (λ e. c .before .before .before .if1 .taken (c .before .before .before .before .formula-at .ensures ∙ e))
-    (sym (c .if2 .taken) ∙ c .before .open-leaf .ensures ∙ ap (λ (v : ℕ). openLeaf (shape v)) (c .before .before .word .ensures))
+    (sym (c .if2 .taken) ∙ c .before .open-leaf .ensures ∙ ap (λ (v : ℕ). openByItself (shape v)) (c .before .before .word .ensures))
 
 mark-parts-requires : tie.Need-mark-parts-requires Inv-loop μ-loop
 mark-parts-requires c κs = search needs
@@ -59,7 +59,7 @@ loop-again c =
     let a = s .args in
     going-on (now (a .f)) (a .count) (a .from) (now (a .w)) (s .pre .0) (s .pre .1) (at .before .loop .inv) (at .loop-test .taken)
     (λ e. o .before .before .before .if1 .taken (o .before .before .before .before .formula-at .ensures ∙ e))
-    (sym (o .if2 .left) ∙ o .before .open-leaf .ensures ∙ ap (λ (v : ℕ). openLeaf (shape v)) (o .before .before .word .ensures))
+    (sym (o .if2 .left) ∙ o .before .open-leaf .ensures ∙ ap (λ (v : ℕ). openByItself (shape v)) (o .before .before .word .ensures))
     (search needs) (c .before .mark-parts .ensures)
 
 loop-less-2 : tie.Need-loop-less-2 Inv-loop μ-loop
