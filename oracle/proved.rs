@@ -7,6 +7,13 @@ use std::io;
 
 const ROOM: usize = 32_835;
 
+#[derive(Clone, PartialEq)]
+#[repr(C)]
+struct Record {
+    formula: u16,
+    term: u16,
+}
+
 #[link(name = "exported", kind = "static")]
 extern "C" {
     fn quaysaffron_output(file: *const u8, length: usize, out: *mut [u8; ROOM]) -> usize;
@@ -17,7 +24,7 @@ extern "C" {
         goal: usize,
         terms: *mut u16,
         numbers: usize,
-        work: *mut [u16; 2],
+        work: *mut Record,
         records: usize,
         steps: usize,
     ) -> usize;
@@ -53,7 +60,8 @@ fn status(file: &[u8]) -> Vec<u8> {
         .map(|i| if i < count { word(i) } else { 8 })
         .collect();
     let mut terms = vec![0xaaaa; 4096 * 6];
-    let mut work = vec![[0xaaaa; 2]; 16384];
+    let record = |x| Record { formula: x, term: x };
+    let mut work = vec![record(0xaaaa); 16384];
     // the slices are whole and apart, as the call takes them
     let number = unsafe {
         quaysaffron_status(
@@ -70,7 +78,7 @@ fn status(file: &[u8]) -> Vec<u8> {
     };
     let zeros = words[count..].iter().all(|word| *word == 0)
         && terms.iter().all(|number| *number == 0)
-        && work.iter().all(|record| *record == [0, 0]);
+        && work.iter().all(|left| *left == record(0));
     assert!(zeros || (17..=21).contains(&number));
     match number {
         0 => b"solvable\n".to_vec(),

@@ -1,3 +1,4 @@
+pub mod Generated
 pub mod Refusals
 pub mod Seating
 pub mod Given

@@ -14,6 +14,7 @@ ghost use Rattle.claim.specs.Start.{firstSequent, identsFrom, seated};
 ghost use Rattle.claim.specs.Outcomes.{testedOf, wordsKept, numbersKept, outcomeFor, keeps};
 use context::Answer;
 use context::Limits;
+use context::Record;
 use context::Sequent;
 use formula::Levels;
 use formula::Place;
@@ -129,7 +130,7 @@ pub fn limits(room: usize, numbers: usize, records: usize, steps: usize) -> Limi
 }
 
 // An Ident for each assumption in order, all pushed on the ordered context of level 0; the first sequent.
-pub fn assume(t: &mut [u16], w: &mut [[u16; 2]], assumed: &[u16], goal: usize) -> Sequent
+pub fn assume(t: &mut [u16], w: &mut [Record], assumed: &[u16], goal: usize) -> Sequent
     requires { ⌜ length (now assumed) ≤ 64 ⌝ }
     ensures { λ r. ⌜ r ≡ firstSequent (length (now (assumed .entry))) goal ⌝ }
     ensures { λ _. ⌜ now (t .exit) ≡ putNodes (now (t .entry)) 0 (identsFrom 0 (now (assumed .entry))) ⌝ }
@@ -202,7 +203,7 @@ fn outcome_for(count: usize, answer: Answer) -> Outcome
 pub fn closing(
     f: &mut [u32],
     t: &mut [u16],
-    w: &mut [[u16; 2]],
+    w: &mut [Record],
     count: usize,
     answer: Answer,
 ) -> Outcome

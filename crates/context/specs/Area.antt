@@ -2,28 +2,32 @@
 use Prim.Native.Nat.{ℕ, zero, suc, _+_, _-_, _*_, _%_}
 use mathlib.Core.List.{List, [], _∷_}
 use lib.ListN.{getD, set}
+use Rattle.context.specs.declared.Record.{Record}
 use Rattle.context.specs.declared.Sequent.{Sequent}
 use Rattle.context.specs.Moves.{stretch}
 
--- a record: a formula's index and a term's; a read out of range gives the empty list
+-- a record; a read out of range gives two zeros
 abbrev pub Rec : Type 0
-Rec = List ℕ
+Rec = Record
+
+abbrev pub recordOf : ℕ → ℕ → Rec
+recordOf a x = record { formula = a; term = x }
 
 abbrev pub none : Rec
-none = []
+none = recordOf 0 0
 
 abbrev pub rec : ℕ → ℕ → Rec
-rec a x = a % 65536 ∷ x % 65536 ∷ []
+rec a x = recordOf (a % 65536) (x % 65536)
 
 -- a record of two zeros
 abbrev pub zeroed : Rec
-zeroed = 0 ∷ 0 ∷ []
+zeroed = recordOf 0 0
 
 abbrev pub formulaAt : List Rec → ℕ → ℕ
-formulaAt w i = getD (getD w i none) 0 0
+formulaAt w i = getD w i none .formula
 
 abbrev pub termAt : List Rec → ℕ → ℕ
-termAt w i = getD (getD w i none) 1 0
+termAt w i = getD w i none .term
 
 -- n records from i on, copied a level up
 unfoldable pub copies : ℕ → ℕ → List Rec → List Rec

@@ -5,10 +5,16 @@ ghost use mathlib.Core.Path.{_≡_};
 ghost use Prim.Native.Nat.{_+_, _-_, _*_, _%_, _≤_, _<_};
 ghost use lib.ListN.{length, getD, set, replicate};
 ghost use Rattle.theory.specs.Meter.{lacking};
-ghost use Rattle.context.specs.Area.{none, rec, zeroed, formulaAt, termAt, copies, shifts, raised};
+ghost use Rattle.context.specs.Area.{none, rec, recordOf, zeroed, formulaAt, termAt, copies, shifts, raised};
 ghost use Rattle.context.specs.Area.{pushPlace, appendPlace, removed, topPlace};
 ghost use Rattle.context.specs.Moves.{stretch, stepped, spent, returned, upped, pushed, popped, appended, without, limitsOf};
 ghost use Rattle.context.specs.Moves.{numberOf};
+
+// A record of the two contexts: a formula's index and a term's.
+pub struct Record {
+    pub formula: u16,
+    pub term: u16,
+}
 
 // Records in a stretch, over both contexts.
 pub const STRETCH: usize = 256;
@@ -61,50 +67,85 @@ fn wide(x: u16) -> usize
     x as usize
 }
 
-pub fn formula_at(w: &[[u16; 2]], i: usize) -> usize
+pub fn read(w: &[Record], i: usize) -> Record
+    requires { ⌜ i < length (now w) ⌝ }
+    ensures { λ r. ⌜ r ≡ getD (now (w .entry)) i none ⌝ }
+{
+    w[i]
+}
+
+pub fn write(w: &mut [Record], i: usize, formula: u16, term: u16)
+    requires { ⌜ i < length (now w) ⌝ }
+    ensures { λ _. ⌜ now (w .exit) ≡ set (now (w .entry)) i (recordOf formula term) ⌝ }
+{
+    w[i] = Record { formula, term };
+}
+
+// A work area of records that hold x twice, as long as document 01 lets anyone lend.
+pub fn filled(x: u16) -> [Record; 16384]
+    ensures { λ r. ⌜ r ≡ replicate 16384 (recordOf x x) ⌝ }
+{
+    let record = Record {
+        formula: x,
+        term: x,
+    };
+    [record; 16384]
+}
+
+pub fn formula_at(w: &[Record], i: usize) -> usize
     ensures { λ r. ⌜ r ≡ formulaAt (now (w .entry)) i ⌝ }
 {
-    if i < w.len() { wide(w[i][0]) } else { 0 }
+    if i < w.len() {
+        let r = read(w, i);
+        wide(r.formula)
+    } else {
+        0
+    }
 }
 
-pub fn term_at(w: &[[u16; 2]], i: usize) -> usize
+pub fn term_at(w: &[Record], i: usize) -> usize
     ensures { λ r. ⌜ r ≡ termAt (now (w .entry)) i ⌝ }
 {
-    if i < w.len() { wide(w[i][1]) } else { 0 }
+    if i < w.len() {
+        let r = read(w, i);
+        wide(r.term)
+    } else {
+        0
+    }
 }
 
-pub fn put(w: &mut [[u16; 2]], i: usize, a: usize, x: usize)
+pub fn put(w: &mut [Record], i: usize, a: usize, x: usize)
     ensures { λ _. ⌜ now (w .exit) ≡ set (now (w .entry)) i (rec a x) ⌝ }
 {
     if i < w.len() {
-        w[i] = [(a % 65536) as u16, (x % 65536) as u16];
+        write(w, i, (a % 65536) as u16, (x % 65536) as u16);
     }
 }
 
 // Every record becomes zero.
-pub fn clear(w: &mut [[u16; 2]])
+pub fn clear(w: &mut [Record])
     ensures { λ _. ⌜ now (w .exit) ≡ replicate (length (now (w .entry))) zeroed ⌝ }
 {
     let mut i = 0;
     while i < w.len() {
-        w[i] = [0, 0];
+        write(w, i, 0, 0);
         i += 1;
     }
 }
 
 // Record i, copied to j.
-pub fn copy(w: &mut [[u16; 2]], i: usize, j: usize)
+pub fn copy(w: &mut [Record], i: usize, j: usize)
     requires { ⌜ i < length (now w) ⌝ }
     ensures { λ _. ⌜ now (w .exit) ≡ set (now (w .entry)) j (getD (now (w .entry)) i none) ⌝ }
 {
-    let x = w[i];
+    let r = read(w, i);
     if j < w.len() {
-        w[j] = x;
+        write(w, j, r.formula, r.term);
     }
 }
 
 // n records from i on, copied a level up.
-pub fn copy_run(w: &mut [[u16; 2]], i: usize, n: usize)
+pub fn copy_run(w: &mut [Record], i: usize, n: usize)
     requires { ⌜ i + n ≤ length (now w) ⌝ }
     requires { ⌜ length (now w) ≤ 65536 ⌝ }
     ensures { λ _. ⌜ now (w .exit) ≡ copies n i (now (w .entry)) ⌝ }
@@ -119,7 +160,7 @@ pub fn copy_run(w: &mut [[u16; 2]], i: usize, n: usize)
 }
 
 // The n records after place i, each one place down.
-pub fn shift_run(w: &mut [[u16; 2]], i: usize, n: usize)
+pub fn shift_run(w: &mut [Record], i: usize, n: usize)
     requires { ⌜ i + n < length (now w) ⌝ }
     ensures { λ _. ⌜ now (w .exit) ≡ shifts n i (now (w .entry)) ⌝ }
 {
@@ -133,7 +174,7 @@ pub fn shift_run(w: &mut [[u16; 2]], i: usize, n: usize)
 }
 
 // The records in use, copied a level up.
-pub fn copy_up(w: &mut [[u16; 2]], q: Sequent)
+pub fn copy_up(w: &mut [Record], q: Sequent)
     requires { ⌜ (length (now w) ≤ 65536) × ((q .level + 2) * stretch ≤ length (now w)) × (q .unordered + q .ordered ≤ stretch) ⌝ }
     ensures { λ _. ⌜ now (w .exit) ≡ raised (now (w .entry)) q ⌝ }
 {
@@ -151,7 +192,7 @@ pub fn top(q: Sequent) -> usize
 }
 
 // A record pushed on the ordered context.
-pub fn push(w: &mut [[u16; 2]], q: Sequent, a: usize, x: usize) -> Sequent
+pub fn push(w: &mut [Record], q: Sequent, a: usize, x: usize) -> Sequent
     requires { ⌜ (q .level < 256) × (q .unordered + q .ordered < stretch) ⌝ }
     ensures { λ r. ⌜ r ≡ pushed q ⌝ }
     ensures { λ _. ⌜ now (w .exit) ≡ set (now (w .entry)) (pushPlace q) (rec a x) ⌝ }
@@ -180,7 +221,7 @@ pub fn pop(q: Sequent) -> Sequent
 }
 
 // A record appended to the unordered context.
-pub fn append(w: &mut [[u16; 2]], q: Sequent, a: usize, x: usize) -> Sequent
+pub fn append(w: &mut [Record], q: Sequent, a: usize, x: usize) -> Sequent
     requires { ⌜ (q .level < 256) × (q .unordered + q .ordered < stretch) ⌝ }
     ensures { λ r. ⌜ r ≡ appended q ⌝ }
     ensures { λ _. ⌜ now (w .exit) ≡ set (now (w .entry)) (appendPlace q) (rec a x) ⌝ }
@@ -196,7 +237,7 @@ pub fn append(w: &mut [[u16; 2]], q: Sequent, a: usize, x: usize) -> Sequent
 }
 
 // Unordered record i taken out; those after it move one place down.
-pub fn remove(w: &mut [[u16; 2]], q: Sequent, i: usize) -> Sequent
+pub fn remove(w: &mut [Record], q: Sequent, i: usize) -> Sequent
     requires { ⌜ (q .level < 256) × (i < q .unordered) × (q .unordered ≤ stretch) × ((q .level + 1) * stretch ≤ length (now w)) ⌝ }
     ensures { λ r. ⌜ r ≡ without q ⌝ }
     ensures { λ _. ⌜ now (w .exit) ≡ removed (now (w .entry)) q i ⌝ }

@@ -1,2 +1,3 @@
+pub mod Generated
 pub mod Walk
 pub mod Fall

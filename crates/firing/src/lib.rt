@@ -16,11 +16,12 @@ ghost use Rattle.representation.specs.Leaves.{leafPlace, firesBy, firingIn, May
 use context::Answer;
 use context::Limits;
 use context::Next;
+use context::Record;
 use context::Sequent;
 use context::State;
 
 // The place of the first unordered record that is the leaf with this word; the number of them where there is none.
-pub fn find_leaf(f: &[u32], w: &[[u16; 2]], q: Sequent, leaf: u32) -> usize
+pub fn find_leaf(f: &[u32], w: &[Record], q: Sequent, leaf: u32) -> usize
     requires { ⌜ (q .level < 256) × (q .unordered ≤ stretch) ⌝ }
     ensures { λ r. ⌜ r ≡ leafPlace (now (f .entry)) (now (w .entry)) (q .level) (q .unordered) leaf ⌝ }
 {
@@ -38,7 +39,7 @@ pub fn find_leaf(f: &[u32], w: &[[u16; 2]], q: Sequent, leaf: u32) -> usize
 }
 
 // The place of the leaf that lets unordered record i fire, where it is leaf→B and the leaf is present; else the number of them.
-pub fn fires(f: &[u32], w: &[[u16; 2]], q: Sequent, i: usize) -> usize
+pub fn fires(f: &[u32], w: &[Record], q: Sequent, i: usize) -> usize
     requires { ⌜ (q .level < 256) × (q .unordered ≤ stretch) × (i ≤ stretch) ⌝ }
     ensures { λ r. ⌜ r ≡ firesBy (now (f .entry)) (now (w .entry)) (q .level) (q .unordered) i ⌝ }
 {
@@ -54,7 +55,7 @@ pub fn fires(f: &[u32], w: &[[u16; 2]], q: Sequent, i: usize) -> usize
 }
 
 // How many unordered records fire.
-pub fn count_fires(f: &[u32], w: &[[u16; 2]], q: Sequent) -> usize
+pub fn count_fires(f: &[u32], w: &[Record], q: Sequent) -> usize
     requires { ⌜ (q .level < 256) × (q .unordered ≤ stretch) ⌝ }
     ensures { λ r. ⌜ r ≡ firingIn (now (f .entry)) (now (w .entry)) (q .level) (q .unordered) (q .unordered) ⌝ }
 {
@@ -75,7 +76,7 @@ pub fn count_fires(f: &[u32], w: &[[u16; 2]], q: Sequent) -> usize
 pub fn fire_one(
     f: &[u32],
     t: &mut [u16],
-    w: &mut [[u16; 2]],
+    w: &mut [Record],
     q: Sequent,
     i: usize,
     j: usize,
@@ -102,7 +103,7 @@ pub fn fire_one(
 pub fn fire_all(
     f: &[u32],
     t: &mut [u16],
-    w: &mut [[u16; 2]],
+    w: &mut [Record],
     m: Limits,
     st: State,
     q: Sequent,
@@ -127,7 +128,7 @@ pub fn fire_all(
 }
 
 // The place of the goal's leaf among the unordered records; the number of them where the goal is no leaf or does not stand there.
-pub fn goal_leaf(f: &[u32], w: &[[u16; 2]], q: Sequent) -> usize
+pub fn goal_leaf(f: &[u32], w: &[Record], q: Sequent) -> usize
     requires { ⌜ (q .level < 256) × (q .unordered ≤ stretch) ⌝ }
     ensures { λ r. ⌜ r ≡ leafPlace (now (f .entry)) (now (w .entry)) (q .level) (q .unordered) (getD (now (f .entry)) (q .goal) 0) ⌝ }
 {
@@ -139,7 +140,7 @@ pub fn goal_leaf(f: &[u32], w: &[[u16; 2]], q: Sequent) -> usize
 }
 
 // Rule 2, where the goal's leaf is not present; where nothing fires, the tries.
-pub fn fire(f: &[u32], t: &mut [u16], w: &mut [[u16; 2]], m: Limits, st: State, q: Sequent) -> Next
+pub fn fire(f: &[u32], t: &mut [u16], w: &mut [Record], m: Limits, st: State, q: Sequent) -> Next
     requires { ⌜ Rep m (lent (now f) (now t) (now w)) st q ⌝ }
     requires { ⌜ (q .ordered ≡ 0) × (q .unordered ≤ leafPlace (now f) (now w) (q .level) (q .unordered) (getD (now f) (q .goal) 0)) ⌝ }
     ensures { λ r. ⌜ ((taken : List (List ℕ)) → Turns m taken (lent (now (f .entry)) (now (t .entry)) (now (w .entry))) st q bySearch r
@@ -165,14 +166,7 @@ pub fn fire(f: &[u32], t: &mut [u16], w: &mut [[u16; 2]], m: Limits, st: State, 
 }
 
 // Search's rules 1 and 2, its entry counted.
-pub fn settle(
-    f: &[u32],
-    t: &mut [u16],
-    w: &mut [[u16; 2]],
-    m: Limits,
-    st: State,
-    q: Sequent,
-) -> Next
+pub fn settle(f: &[u32], t: &mut [u16], w: &mut [Record], m: Limits, st: State, q: Sequent) -> Next
     requires { ⌜ Rep m (lent (now f) (now t) (now w)) st q ⌝ }
     requires { ⌜ q .ordered ≡ 0 ⌝ }
     ensures { λ r. ⌜ ((taken : List (List ℕ)) → Turns m taken (lent (now (f .entry)) (now (t .entry)) (now (w .entry))) st q bySearch r

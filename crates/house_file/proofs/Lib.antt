@@ -1,3 +1,4 @@
+pub mod Generated
 pub mod Lines
 pub mod Filled
 pub mod Whole

@@ -27,7 +27,7 @@ fn search(
         ⌜ Answers (claimOf (now (f .entry)) count (now (assumed .entry)) (now (names .entry)) goal (now (t .entry)) 16384 1000000) r
         (now (f .exit)) (now (t .exit)) ⌝ }
 {
-    let mut work = [[0u16; 2]; 16384];
+    let mut work = context::filled(0);
     prove::prove(f, count, assumed, names, goal, t, &mut work, 1000000)
 }
 

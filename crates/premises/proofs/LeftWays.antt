@@ -132,7 +132,7 @@ module _ {m : Limits} (taken : List (List ℕ)) {x : Lent} {s : State} {q : Sequ
   -- it is still there after its first half
   module _ {y : Lent} {s2 : State} (back : Back m x s q s2 y) where
     top-back : topFormula y q ≡ topFormula x q
-    top-back = ap (λ (r : Rec). getD r 0 0) (back .frame .records .at (topPlace q) top-low)
+    top-back = ap (λ (r : Rec). r .formula) (back .frame .records .at (topPlace q) top-low)
 
     pub splits-back : Splits y q
     splits-back = record {

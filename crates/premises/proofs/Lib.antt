@@ -1,3 +1,4 @@
+pub mod Generated
 pub mod Makes
 pub mod Asking
 pub mod RightWays

@@ -96,7 +96,7 @@ module _ {m : Limits} (taken : List (List ℕ)) {x : Lent} {s : State} {q : Sequ
   -- the record is still there after its first premise
   module _ {y : Lent} {s2 : State} (back : Back m x s q s2 y) where
     formula-back : formulaOf y q i ≡ formulaOf x q i
-    formula-back = ap (λ (r : Rec). getD r 0 0)
+    formula-back = ap (λ (r : Rec). r .formula)
         (back .frame .records .at (placeOf q i) (let h = ne .here in omega (arith, rep .seats .fits)))
 
     word-back : getD (y .words) (formulaOf y q i) 0 ≡ getD (x .words) (formulaOf x q i) 0

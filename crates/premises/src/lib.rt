@@ -8,6 +8,7 @@ ghost use Rattle.representation.specs.Reading.{lent, kindAt};
 ghost use Rattle.representation.specs.Keeping.{Rep};
 ghost use Rattle.premises.specs.Prepared.{Body, Half, First, Second, Nested};
 use context::Limits;
+use context::Record;
 use context::Sequent;
 use context::State;
 
@@ -21,7 +22,7 @@ pub enum Ready {
 pub fn body(
     f: &[u32],
     t: &mut [u16],
-    w: &mut [[u16; 2]],
+    w: &mut [Record],
     m: Limits,
     st: State,
     q: Sequent,
@@ -59,7 +60,7 @@ pub fn body(
 pub fn half(
     f: &[u32],
     t: &mut [u16],
-    w: &mut [[u16; 2]],
+    w: &mut [Record],
     m: Limits,
     st: State,
     q: Sequent,
@@ -97,7 +98,7 @@ pub fn half(
 pub fn first(
     f: &mut [u32],
     t: &mut [u16],
-    w: &mut [[u16; 2]],
+    w: &mut [Record],
     m: Limits,
     st: State,
     q: Sequent,
@@ -141,7 +142,7 @@ pub fn first(
 pub fn second(
     f: &[u32],
     t: &mut [u16],
-    w: &mut [[u16; 2]],
+    w: &mut [Record],
     m: Limits,
     st: State,
     q: Sequent,

@@ -24,6 +24,7 @@ use claim::Tested;
 use context::Answer;
 use context::Limits;
 use context::Next;
+use context::Record;
 use context::Sequent;
 use context::State;
 use premises::Ready;
@@ -32,7 +33,7 @@ use premises::Ready;
 pub fn right(
     f: &mut [u32],
     t: &mut [u16],
-    w: &mut [[u16; 2]],
+    w: &mut [Record],
     k: &[u8],
     m: Limits,
     st: State,
@@ -63,7 +64,7 @@ pub fn right(
 pub fn right_and(
     f: &mut [u32],
     t: &mut [u16],
-    w: &mut [[u16; 2]],
+    w: &mut [Record],
     k: &[u8],
     m: Limits,
     st: State,
@@ -94,7 +95,7 @@ pub fn right_and(
 pub fn premise(
     f: &mut [u32],
     t: &mut [u16],
-    w: &mut [[u16; 2]],
+    w: &mut [Record],
     k: &[u8],
     m: Limits,
     st: State,
@@ -126,7 +127,7 @@ pub fn premise(
 pub fn right_impl(
     f: &mut [u32],
     t: &mut [u16],
-    w: &mut [[u16; 2]],
+    w: &mut [Record],
     k: &[u8],
     m: Limits,
     st: State,
@@ -153,7 +154,7 @@ pub fn right_impl(
 pub fn left(
     f: &mut [u32],
     t: &mut [u16],
-    w: &mut [[u16; 2]],
+    w: &mut [Record],
     k: &[u8],
     m: Limits,
     st: State,
@@ -183,7 +184,7 @@ pub fn left(
 pub fn left_or(
     f: &mut [u32],
     t: &mut [u16],
-    w: &mut [[u16; 2]],
+    w: &mut [Record],
     k: &[u8],
     m: Limits,
     st: State,
@@ -217,7 +218,7 @@ pub fn left_or(
 pub fn branch(
     f: &mut [u32],
     t: &mut [u16],
-    w: &mut [[u16; 2]],
+    w: &mut [Record],
     k: &[u8],
     m: Limits,
     st: State,
@@ -242,7 +243,7 @@ pub fn branch(
 pub fn search(
     f: &mut [u32],
     t: &mut [u16],
-    w: &mut [[u16; 2]],
+    w: &mut [Record],
     k: &[u8],
     m: Limits,
     st: State,
@@ -270,7 +271,7 @@ pub fn search(
 pub fn second_half(
     f: &mut [u32],
     t: &mut [u16],
-    w: &mut [[u16; 2]],
+    w: &mut [Record],
     k: &[u8],
     m: Limits,
     st: State,
@@ -295,7 +296,7 @@ pub fn second_half(
 pub fn positions(
     f: &mut [u32],
     t: &mut [u16],
-    w: &mut [[u16; 2]],
+    w: &mut [Record],
     k: &[u8],
     m: Limits,
     st: State,
@@ -329,7 +330,7 @@ pub fn positions(
 pub fn attempt(
     f: &mut [u32],
     t: &mut [u16],
-    w: &mut [[u16; 2]],
+    w: &mut [Record],
     k: &[u8],
     m: Limits,
     st: State,
@@ -357,7 +358,7 @@ pub fn attempt(
 pub fn first_premise(
     f: &mut [u32],
     t: &mut [u16],
-    w: &mut [[u16; 2]],
+    w: &mut [Record],
     k: &[u8],
     m: Limits,
     st: State,
@@ -382,7 +383,7 @@ pub fn first_premise(
 pub fn second_premise(
     f: &mut [u32],
     t: &mut [u16],
-    w: &mut [[u16; 2]],
+    w: &mut [Record],
     k: &[u8],
     m: Limits,
     st: State,
@@ -407,7 +408,7 @@ pub fn second_premise(
 fn start(
     f: &mut [u32],
     t: &mut [u16],
-    w: &mut [[u16; 2]],
+    w: &mut [Record],
     names: &[u8],
     assumed: &[u16],
     count: usize,
@@ -446,7 +447,7 @@ pub fn prove(
     names: &[u8],
     goal: usize,
     t: &mut [u16],
-    w: &mut [[u16; 2]],
+    w: &mut [Record],
     steps: usize,
 ) -> Outcome
     ensures { λ r. ⌜ Called (claimOf (now (f .entry)) count (now (assumed .entry)) (now (names .entry)) goal (now (t .entry))

@@ -24,7 +24,7 @@ use Rattle.representation.specs.Trying.{Next, recordAt, recordsBefore, r
 use Rattle.representation.specs.Trying.{Past, Finishes}
 use Rattle.representation.specs.Records.{formulaOf, termOf, premiseOf, endOf}
 use Rattle.representation.proofs.Tables.{upto-ext, from-ext}
-use Rattle.representation.proofs.Same.{frame-less, frame-trans, laid-same}
+use Rattle.representation.proofs.Same.{entry-by, frame-less, frame-trans, laid-same}
 use Rattle.representation.proofs.Combine.{comes-as, comes-now, try-short, try-found, FailsAs, fails-as, FindsAs, finds-as}
 use Rattle.representation.proofs.Branch.{gives-as, gives-short, back-at, after-made, made-kept, back-failed, back-found}
 use Rattle.representation.proofs.Branch.{paid, asks-made, gives-try-short, gives-try-found}
@@ -115,8 +115,7 @@ module _ {m : Limits} (taken : List (List ℕ)) {x : Lent} {s2 : State} {q : Seq
 module _ (x y : Lent) (q : Sequent) (same : Same none ((q .level + 1) * stretch) (x .records) (y .records))
     (few : q .unordered ≤ stretch) where
   pub entry-back : (i : ℕ) → i < q .unordered → recordAt y q i ≡ recordAt x q i
-  unfolding entryAt
-  entry-back i h = rw (same .at (q .level * stretch + i) (omega arith))
+  entry-back i h = entry-by (x .records) (y .records) _ _ (same .at (q .level * stretch + i) (omega arith))
 
   pub before-back : (i : ℕ) → i ≤ q .unordered → recordsBefore y q i ≡ recordsBefore x q i
   unfolding unorderedIn

@@ -12,6 +12,7 @@ use Rattle.theory.specs.Meter as M
 use Rattle.context.specs.declared.Sequent.{Sequent}
 use Rattle.context.specs.declared.Limits.{Limits}
 use Rattle.context.specs.Moves.{stretch}
+use Rattle.theory.specs.Search.{entry}
 use Rattle.context.specs.Area.{Rec, none}
 use Rattle.representation.specs.Reading.{Lent, shapeAt, book, entryAt, unorderedIn, orderedIn}
 use Rattle.representation.specs.Keeping.{Same, Laid, Rooms, Inside, Seats, Frame}
@@ -46,16 +47,21 @@ laid-same {f} {f1} {n} a ly i h =
     subst (λ (x : ℕ). T (goodWord (take i f1) x)) (sym (a .at i h))
     (subst (λ (b : List ℕ). T (goodWord b (getD f i 0))) (sym (take-same {n = i} (same-less (omega arith) a))) (ly i h))
 
+-- equal records are read as equal entries
+pub entry-by : (w w1 : List Rec) (i j : ℕ) → getD w1 j none ≡ getD w i none → entryAt w1 j ≡ entryAt w i
+unfolding entryAt entry
+entry-by w w1 i j e = ap (λ (r : Rec). entry (r .formula) (r .term)) e
+
 pub unordered-same : (w w1 : List Rec) (l n : ℕ) →
     ((i : ℕ) → i < n → getD w1 (l * stretch + i) none ≡ getD w (l * stretch + i) none) → unorderedIn w1 l n ≡ unorderedIn w l n
-unfolding unorderedIn entryAt
-unordered-same w w1 l n e = upto-ext n (λ i h. rw (e i h))
+unfolding unorderedIn
+unordered-same w w1 l n e = upto-ext n (λ i h. entry-by w w1 _ _ (e i h))
 
 pub ordered-same : (w w1 : List Rec) (l n : ℕ) →
     ((i : ℕ) → i < n → getD w1 (l * stretch + stretch - 1 - i) none ≡ getD w (l * stretch + stretch - 1 - i) none) →
     orderedIn w1 l n ≡ orderedIn w l n
-unfolding orderedIn entryAt
-ordered-same w w1 l n e = downto-ext n (λ i h. rw (e i h))
+unfolding orderedIn
+ordered-same w w1 l n e = downto-ext n (λ i h. entry-by w w1 _ _ (e i h))
 
 pub frame-refl : {x : Lent} {nf nt l : ℕ} → Frame x nf nt l x
 frame-refl = record { words = same-refl; numbers = same-refl; records = same-refl }
@@ -90,8 +96,8 @@ rooms-after f r = record {
 
 pub inside-same : {nf nt : ℕ} {w w1 : List Rec} {i : ℕ} → getD w1 i none ≡ getD w i none → Inside nf nt w i → Inside nf nt w1 i
 inside-same {nf} {nt} {w} {w1} {i} e x = record {
-  formula-in = subst (λ (r : Rec). getD r 0 0 < nf) (sym e) (x .formula-in);
-  term-in = subst (λ (r : Rec). getD r 1 0 < nt) (sym e) (x .term-in);
+  formula-in = subst (λ (r : Rec). r .formula < nf) (sym e) (x .formula-in);
+  term-in = subst (λ (r : Rec). r .term < nt) (sym e) (x .term-in);
 }
 
 -- a sequent whose stretch was left alone is still there

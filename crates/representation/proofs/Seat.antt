@@ -14,7 +14,7 @@ use Rattle.theory.specs.Search.{entry}
 use Rattle.context.specs.declared.Sequent.{Sequent}
 use Rattle.context.specs.declared.Limits.{Limits}
 use Rattle.context.specs.Moves.{stretch, pushed, popped, appended}
-use Rattle.context.specs.Area.{Rec, none, rec, pushPlace, appendPlace, topPlace}
+use Rattle.context.specs.Area.{Rec, none, rec, recordOf, pushPlace, appendPlace, topPlace}
 use Rattle.representation.specs.Tables.{upto, downto}
 use Rattle.representation.specs.Reading.{entryAt, unorderedIn, orderedIn}
 use Rattle.representation.specs.Keeping.{Inside, Seats}
@@ -93,17 +93,20 @@ module _ {m : Limits} {nf nt : ℕ} {w : List Rec} {q : Sequent} {us os : List E
   module _ (room : (m .levels + 1) * stretch ≤ length w) where
     -- a record written at place i of the stretch
     module _ (a t : ℕ) (a-in : a < nf) (t-in : t < nt) (few : (nf ≤ 65536) × (nt ≤ 65536)) where
-      written : (i : ℕ) → i < length w → getD (set w i (rec a t)) i none ≡ a ∷ t ∷ []
+      written : (i : ℕ) → i < length w → getD (set w i (rec a t)) i none ≡ recordOf a t
       written i h = getD-set-same w i (rec a t) none h
-          ∙ ap₂ (λ (y z : ℕ). y ∷ z ∷ []) (mod-eq-of-lt (let p : a < 65536 = omega arith in p))
+          ∙ ap₂ recordOf (mod-eq-of-lt (let p : a < 65536 = omega arith in p))
           (mod-eq-of-lt (let p : t < 65536 = omega arith in p))
 
       entry-written : (i : ℕ) → i < length w → entryAt (set w i (rec a t)) i ≡ entry a t
       unfolding entryAt entry
-      entry-written i h = rw (written i h)
+      entry-written i h = ap (λ (r : Rec). entry (r .formula) (r .term)) (written i h)
 
       inside-written : (i : ℕ) → i < length w → Inside nf nt (set w i (rec a t)) i
-      inside-written i h = record { formula-in = rw (written i h) a-in; term-in = rw (written i h) t-in }
+      inside-written i h = record {
+        formula-in = subst (λ (r : Rec). r .formula < nf) (sym (written i h)) a-in;
+        term-in = subst (λ (r : Rec). r .term < nt) (sym (written i h)) t-in;
+      }
 
       other : (p i : ℕ) → (i ≡ p → ⊥) → getD (set w p (rec a t)) i none ≡ getD w i none
       other p i n = getD-set-other w p i (rec a t) none (omega arith)

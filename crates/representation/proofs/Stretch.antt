@@ -16,20 +16,16 @@ use Rattle.representation.specs.Tables.{upto, from}
 use Rattle.representation.specs.Reading.{entryAt, unorderedIn, orderedIn}
 use Rattle.representation.specs.Keeping.{Same, Inside, Seats}
 use Rattle.representation.proofs.Tables.{upto-ext, downto-ext, upto-split, from-ext, upto-length, parts-same}
-use Rattle.representation.proofs.Same.{ordered-same, inside-same}
+use Rattle.representation.proofs.Same.{entry-by, ordered-same, inside-same}
 use Rattle.representation.proofs.Seat.{unordered-length}
 use Rattle.representation.proofs.Copies.{copies-length, copies-below, copies-at}
 use Rattle.representation.proofs.Copies.{shifts-length, shifts-below, shifts-above, shifts-at}
 
 inside-moved : {nf nt : ℕ} {w w1 : List Rec} (i j : ℕ) → getD w1 j none ≡ getD w i none → Inside nf nt w i → Inside nf nt w1 j
 inside-moved {nf} {nt} i j e y = record {
-  formula-in = subst (λ (r : Rec). getD r 0 0 < nf) (sym e) (y .formula-in);
-  term-in = subst (λ (r : Rec). getD r 1 0 < nt) (sym e) (y .term-in);
+  formula-in = subst (λ (r : Rec). r .formula < nf) (sym e) (y .formula-in);
+  term-in = subst (λ (r : Rec). r .term < nt) (sym e) (y .term-in);
 }
-
-entry-moved : (w w1 : List Rec) (i j : ℕ) → getD w1 j none ≡ getD w i none → entryAt w1 j ≡ entryAt w i
-unfolding entryAt
-entry-moved w w1 i j e = rw e
 
 module _ {m : Limits} {nf nt : ℕ} {w : List Rec} {q : Sequent} {us os : List Entry} (x : Seats m nf nt w q us os) where
   -- the levels up to this one are left alone
@@ -77,9 +73,9 @@ module _ {m : Limits} {nf nt : ℕ} {w : List Rec} {q : Sequent} {us os : List E
       ordered-in = λ i k. inside-moved (q .level * stretch + stretch - 1 - i) ((q .level + 1) * stretch + stretch - 1 - i) (raised-back i k)
           (x .ordered-in i k);
       unordered-is = upto-ext (q .unordered)
-          (λ i k. entry-moved w (raised w q) (q .level * stretch + i) ((q .level + 1) * stretch + i) (raised-front i k)) ∙ x .unordered-is;
+          (λ i k. entry-by w (raised w q) (q .level * stretch + i) ((q .level + 1) * stretch + i) (raised-front i k)) ∙ x .unordered-is;
       ordered-is = downto-ext (q .ordered)
-          (λ i k. entry-moved w (raised w q) (q .level * stretch + stretch - 1 - i) ((q .level + 1) * stretch + stretch - 1 - i)
+          (λ i k. entry-by w (raised w q) (q .level * stretch + stretch - 1 - i) ((q .level + 1) * stretch + stretch - 1 - i)
           (raised-back i k)) ∙ x .ordered-is;
     }
 
@@ -137,9 +133,9 @@ module _ {m : Limits} {nf nt : ℕ} {w : List Rec} {q : Sequent} {us os : List E
       gone-unordered =
           upto-split (λ j. entryAt gone (q .level * stretch + j)) i k
           ∙ ap₂ (λ (a b : List Entry). a ++ b)
-          (upto-ext i (λ j h. entry-moved w gone (q .level * stretch + j) (q .level * stretch + j) (gone-front j h)) ∙ parts .0)
+          (upto-ext i (λ j h. entry-by w gone (q .level * stretch + j) (q .level * stretch + j) (gone-front j h)) ∙ parts .0)
           (from-ext (λ j. entryAt gone (q .level * stretch + j)) at i (suc i) k
-          (λ j h. entry-moved w gone (q .level * stretch + suc (i + j)) (q .level * stretch + (i + j))
+          (λ j h. entry-by w gone (q .level * stretch + suc (i + j)) (q .level * stretch + (i + j))
           (gone-next (i + j) (omega arith) (omega arith)) ∙ ap at (let p : suc (i + j) ≡ suc i + j = omega arith in p)) ∙ last)
         where
           last : from at (suc i) k ≡ after

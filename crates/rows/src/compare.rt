@@ -3,6 +3,7 @@ ghost use mathlib.Core.Path.{_≡_};
 ghost use mathlib.Core.Bool.{true};
 ghost use lib.ListN.{length};
 ghost use Rattle.rows.specs.Bytes.{Are, Twice, wordAt, laid};
+use context::Record;
 
 // Every word from `from` on is x.
 pub fn words_are(f: &[u32], from: usize, x: u32) -> bool
@@ -47,7 +48,7 @@ pub fn bytes_are(b: &[u8], from: usize, x: u8) -> bool
 }
 
 // Every record holds x twice.
-pub fn records_are(w: &[[u16; 2]], x: usize) -> bool
+pub fn records_are(w: &[Record], x: usize) -> bool
     ensures { λ r. ⌜ (r ≡ true → Twice (now (w .entry)) (length (now (w .entry))) x) ⌝ }
 {
     let mut i = 0;

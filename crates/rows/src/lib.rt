@@ -9,8 +9,10 @@ pub use compare::words_are;
 pub use compare::words_stand;
 ghost use mathlib.Core.Path.{_≡_};
 ghost use Prim.Native.Nat.{_≤_, _<_};
-ghost use lib.ListN.{length, getD, set};
+ghost use lib.ListN.{length, getD, set, replicate};
+ghost use Rattle.context.specs.Area.{recordOf};
 ghost use Rattle.rows.specs.Bytes.{onward, halfAt, wordAt, laid};
+use context::Record;
 
 fn wide(b: u8) -> usize
     ensures { λ r. ⌜ r ≡ b ⌝ }
@@ -145,6 +147,17 @@ pub fn at_most(n: usize, most: usize) -> usize
         return n;
     }
     most
+}
+
+// A work area of records that hold x twice, one record longer than document 01 lets anyone lend.
+pub fn filled(x: u16) -> [Record; 16385]
+    ensures { λ r. ⌜ r ≡ replicate 16385 (recordOf x x) ⌝ }
+{
+    let junk = Record {
+        formula: x,
+        term: x,
+    };
+    [junk; 16385]
 }
 
 // The first n words of f, four bytes each; what has no room is left out.

@@ -1,3 +1,4 @@
+pub mod Generated
 pub mod Written
 pub mod Nests
 pub mod Charged

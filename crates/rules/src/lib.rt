@@ -18,6 +18,7 @@ ghost use Rattle.rules.specs.Last.{Last, LastFrom, nested};
 use context::Answer;
 use context::Limits;
 use context::Next;
+use context::Record;
 use context::Sequent;
 use context::State;
 
@@ -102,7 +103,7 @@ pub fn composed(
 }
 
 // Whether unordered record i is an implication from an implication.
-pub fn nested(f: &[u32], w: &[[u16; 2]], q: Sequent, i: usize) -> bool
+pub fn nested(f: &[u32], w: &[Record], q: Sequent, i: usize) -> bool
     requires { ⌜ (q .level < 256) × (i < 256) ⌝ }
     ensures { λ r. ⌜ r ≡ nested (now (f .entry)) (now (w .entry)) (q .level) i ⌝ }
 {
@@ -117,7 +118,7 @@ pub fn nested(f: &[u32], w: &[[u16; 2]], q: Sequent, i: usize) -> bool
 pub fn left_and(
     f: &[u32],
     t: &mut [u16],
-    w: &mut [[u16; 2]],
+    w: &mut [Record],
     m: Limits,
     st: State,
     q: Sequent,
@@ -154,7 +155,7 @@ pub fn left_and(
 pub fn true_impl(
     f: &[u32],
     t: &mut [u16],
-    w: &mut [[u16; 2]],
+    w: &mut [Record],
     m: Limits,
     st: State,
     q: Sequent,
@@ -190,7 +191,7 @@ pub fn true_impl(
 pub fn and_impl(
     f: &mut [u32],
     t: &mut [u16],
-    w: &mut [[u16; 2]],
+    w: &mut [Record],
     k: &[u8],
     m: Limits,
     st: State,
@@ -229,7 +230,7 @@ pub fn and_impl(
 pub fn or_impl(
     f: &mut [u32],
     t: &mut [u16],
-    w: &mut [[u16; 2]],
+    w: &mut [Record],
     k: &[u8],
     m: Limits,
     st: State,
@@ -280,7 +281,7 @@ pub fn or_impl(
 pub fn left_impl(
     f: &mut [u32],
     t: &mut [u16],
-    w: &mut [[u16; 2]],
+    w: &mut [Record],
     k: &[u8],
     m: Limits,
     st: State,
@@ -316,7 +317,7 @@ pub fn left_impl(
 pub fn left_rule(
     f: &mut [u32],
     t: &mut [u16],
-    w: &mut [[u16; 2]],
+    w: &mut [Record],
     k: &[u8],
     m: Limits,
     st: State,
@@ -356,7 +357,7 @@ pub fn left_rule(
 pub fn turn(
     f: &mut [u32],
     t: &mut [u16],
-    w: &mut [[u16; 2]],
+    w: &mut [Record],
     k: &[u8],
     m: Limits,
     st: State,

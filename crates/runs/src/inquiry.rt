@@ -4,6 +4,7 @@ ghost use Rattle.runs.specs.Seven.{told};
 use crate::Answer;
 use crate::book;
 use crate::search::Rest;
+use context::Record;
 use rows::field;
 use status::Status;
 
@@ -69,7 +70,7 @@ pub fn answer(
     book: usize,
     f: &mut [u32],
     t: &mut [u16],
-    w: &mut [[u16; 2]],
+    w: &mut [Record],
     text: &[u8],
 ) -> Answer {
     let count = book::given(s, book) + field(s, row, crate::SURPLUS);

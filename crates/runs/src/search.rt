@@ -11,12 +11,11 @@ use crate::MOST_WORDS;
 use crate::book;
 use crate::writer::Written;
 use claim::Outcome;
+use context::Record;
 use rows::at_most;
 use rows::field;
 
 // One more than document 01 allows.
-const MOST_RECORDS: usize = 16385;
-
 const MOST_ASSUMPTIONS: usize = 65;
 
 // The numbers that come back.
@@ -51,14 +50,14 @@ fn read(s: &[u8], book: usize, assumed: &mut [u16], f: &mut [u32])
 }
 
 // Asks the public call.
-fn ask(
+pub fn ask(
     s: &[u8],
     row: usize,
     book: usize,
     assumed: &[u16],
     f: &mut [u32],
     t: &mut [u16],
-    w: &mut [[u16; 2]],
+    w: &mut [Record],
 ) -> Outcome
     ensures { λ r. ⌜ Asked (now (assumed .entry)) (now (f .entry)) (now (t .entry)) (now (w .entry)) r
         (now (f .exit)) (now (t .exit)) (now (w .exit)) ⌝ }
@@ -204,14 +203,14 @@ fn judge(
     }
 }
 
-fn answer(
+pub fn answer(
     s: &[u8],
     row: usize,
     book: usize,
     assumed: &mut [u16],
     f: &mut [u32],
     t: &mut [u16],
-    w: &mut [[u16; 2]],
+    w: &mut [Record],
     text: &mut [u8],
 ) -> Answer {
     read(s, book, assumed, f);
@@ -224,14 +223,14 @@ fn answer(
 }
 
 // Lends as much of each slice as the row says.
-fn lend(
+pub fn lend(
     s: &[u8],
     row: usize,
     book: usize,
     assumed: &mut [u16],
     f: &mut [u32],
     t: &mut [u16],
-    w: &mut [[u16; 2]],
+    w: &mut [Record],
     text: &mut [u8],
 ) -> Answer {
     let assumptions = at_most(book::assumptions(s, book), assumed.len());
@@ -257,6 +256,6 @@ pub fn run(s: &[u8], row: usize, book: usize, text: &mut [u8]) -> Answer {
     let mut assumed = [0u16; MOST_ASSUMPTIONS];
     let mut f = [junk as u32; MOST_WORDS];
     let mut t = [junk as u16; MOST_NUMBERS];
-    let mut w = [[junk as u16, junk as u16]; MOST_RECORDS];
+    let mut w = rows::filled(junk as u16);
     lend(s, row, book, &mut assumed, &mut f, &mut t, &mut w, text)
 }

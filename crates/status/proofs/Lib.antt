@@ -1,3 +1,4 @@
+pub mod Generated
 pub mod Shapes
 pub mod Marked
 pub mod Lists

@@ -52,7 +52,7 @@ module _ (b : Book) where
   mark-above : (w : List Rec) (l n : ℕ) → n ≤ l → someOpen b (set w l mark) n ≡ someOpen b w n
   unfolding someOpen openHere
   mark-above w l zero h = refl
-  mark-above w l (suc n) h = ap₂ (λ (x : Rec) (o : Bool). (not (eqb (getD x 0 0) 0) && isOpen n) || o)
+  mark-above w l (suc n) h = ap₂ (λ (x : Rec) (o : Bool). (not (eqb (x .formula) 0) && isOpen n) || o)
       (getD-set-other w l n mark none (λ e. omega arith)) (mark-above w l n (omega arith))
 
   -- a mark below n asks for its formula too
@@ -67,12 +67,12 @@ module _ (b : Book) where
           let p : l ≡ n = eqb-true l n e in
           subst (λ (i : ℕ). openHere b (set w i mark) n || someOpen b (set w i mark) n ≡ isOpen i || (openHere b w n || someOpen b w n))
           (sym p)
-          (ap₂ (λ (x : Rec) (o : Bool). (not (eqb (getD x 0 0) 0) && isOpen n) || o)
+          (ap₂ (λ (x : Rec) (o : Bool). (not (eqb (x .formula) 0) && isOpen n) || o)
           (getD-set-same w n mark none (omega arith)) (mark-above w n n (omega arith))
           ∙ asked-twice (not (eqb (formulaAt w n) 0)) (isOpen n) (someOpen b w n))
       go false e ih =
           let q : ¬ (l ≡ n) = eqb-false l n e in
-          ap₂ (λ (x : Rec) (o : Bool). (not (eqb (getD x 0 0) 0) && isOpen n) || o)
+          ap₂ (λ (x : Rec) (o : Bool). (not (eqb (x .formula) 0) && isOpen n) || o)
           (getD-set-other w l n mark none (λ p. q (sym p))) (ih (omega arith))
           ∙ swapped (openHere b w n) (isOpen l) (someOpen b w n)
 

@@ -16,6 +16,7 @@ ghost use Rattle.status.specs.Marks.{openByItself, partsMarked, someOpen
 ghost use Rattle.status.specs.Answers.{statusOf, refutedAs};
 ghost use Rattle.status.specs.Whole.{inquiryOf, failedStatus, Answered};
 use claim::Outcome;
+use context::Record;
 
 // Symbols from here up carry free parameters.
 const FIRST_FREE: usize = 8192;
@@ -41,7 +42,7 @@ fn open_leaf(word: u32) -> bool
 }
 
 // Both parts of formula i are marked, if it has parts.
-fn mark_parts(f: &[u32], w: &mut [[u16; 2]], i: usize)
+fn mark_parts(f: &[u32], w: &mut [Record], i: usize)
     ensures { λ _. ⌜ now (w .exit) ≡ partsMarked (shape (getD (now (f .entry)) i 0)) (now (w .entry)) ⌝ }
 {
     let kind = formula::kind(f, i);
@@ -57,7 +58,7 @@ fn mark_parts(f: &[u32], w: &mut [[u16; 2]], i: usize)
 
 // Whether one of the marked formulas below `from` is open. It marks their parts on its way down, so that a formula is looked at once,
 // however often it occurs.
-fn marked_open(f: &[u32], w: &mut [[u16; 2]], count: usize, from: usize) -> bool
+fn marked_open(f: &[u32], w: &mut [Record], count: usize, from: usize) -> bool
     requires { ⌜ (from ≤ count) × (count ≤ length (now f)) × (count ≤ length (now w)) ⌝ }
     requires { ⌜ Good (map shape (take count (now f))) ⌝ }
     ensures { λ r. ⌜ r ≡ someOpen (map shape (take count (now (f .entry)))) (now (w .entry)) from ⌝ }
@@ -76,7 +77,7 @@ fn marked_open(f: &[u32], w: &mut [[u16; 2]], count: usize, from: usize) -> bool
 }
 
 // Whether a ForAll, an Exists or a free symbol occurs in the goal. The work area, all zero, holds the marks and is cleared again.
-fn open_goal(f: &[u32], w: &mut [[u16; 2]], count: usize, goal: usize) -> bool
+fn open_goal(f: &[u32], w: &mut [Record], count: usize, goal: usize) -> bool
     requires { ⌜ (goal < count) × (count ≤ length (now f)) × (count ≤ length (now w)) ⌝ }
     requires { ⌜ Good (map shape (take count (now f))) ⌝ }
     requires { ⌜ now w ≡ replicate (length (now w)) zeroed ⌝ }
@@ -133,7 +134,7 @@ fn search(
     count: usize,
     goal: usize,
     t: &mut [u16],
-    w: &mut [[u16; 2]],
+    w: &mut [Record],
     steps: usize,
 ) -> Outcome
     ensures { λ r. ⌜ Called (claimOf (now (f .entry)) count [] [] goal (now (t .entry)) (length (now (w .entry))) steps) (now (w .entry)) r
@@ -150,7 +151,7 @@ fn search_negation(
     count: usize,
     goal: usize,
     t: &mut [u16],
-    w: &mut [[u16; 2]],
+    w: &mut [Record],
     steps: usize,
 ) -> Status
     requires { ⌜ refusal (firstClaim (inquiryOf (now f) count goal (now t) (length (now w)) steps)) ≡ none ⌝ }
@@ -174,7 +175,7 @@ fn unproved(
     count: usize,
     goal: usize,
     t: &mut [u16],
-    w: &mut [[u16; 2]],
+    w: &mut [Record],
     steps: usize,
 ) -> Status
     requires { ⌜ refusal (firstClaim (inquiryOf (now f) count goal (now t) (length (now w)) steps)) ≡ none ⌝ }
@@ -196,7 +197,7 @@ pub fn solvable_status(
     count: usize,
     goal: usize,
     t: &mut [u16],
-    w: &mut [[u16; 2]],
+    w: &mut [Record],
     steps: usize,
 ) -> Status
     ensures { λ r. ⌜ Answered (inquiryOf (now (f .entry)) count goal (now (t .entry)) (length (now (w .entry))) steps) (now (w .entry)) r

@@ -26,7 +26,7 @@ fn ask(f: &mut [u32], count: usize, goal: usize, steps: usize)
     requires { ⌜ count < 16384 ⌝ }
 {
     let mut t: [u16; 600] = [7; 600];
-    let mut w: [[u16; 2]; 16384] = [[7, 7]; 16384];
+    let mut w = context::filled(7);
     show(status::solvable_status(f, count, goal, &mut t, &mut w, steps));
     number(formula::word(f, count) as usize);
     number(formula::word(f, 1 + count) as usize);

@@ -1,4 +1,5 @@
 -- `assume` has written the assumptions before `i`. The measure is how many are left. Assumes nothing.
+mod Tie
 use borrow.Author.Needs.{needs}
 use Prim.Native.Nat.{_-_}
 use native.Mathlib.Omega.{arith}
@@ -6,7 +7,7 @@ use lib.ListN.{length}
 use denote.Ref.{now}
 use Rattle.theory.specs.Term.{sixOf}
 use Rattle.claim.proofs.assume.Statement.{statement}
-use Rattle.claim.proofs.assume.Tie as tie
+use Rattle.claim.proofs.assume.Proof.Tie as tie
 use Rattle.claim.proofs.Seating.{Seating, seating-starts, seating-free, seating-goes, seating-ends}
 
 abbrev Inv-loop : tie.InvT-loop

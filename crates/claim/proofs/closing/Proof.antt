@@ -1,4 +1,5 @@
 -- `closing`: each clear, and then the numbers. Assumes nothing.
+mod Tie
 use borrow.Author.Needs.{needs}
 use Prim.Native.Nat.{ℕ}
 use mathlib.Core.Path.{ap, _∙_}
@@ -6,7 +7,7 @@ use lib.ListN.{length, take}
 use denote.Ref.{now}
 use Rattle.theory.specs.NameText.{padded}
 use Rattle.claim.proofs.closing.Statement.{statement}
-use Rattle.claim.proofs.closing.Tie as tie
+use Rattle.claim.proofs.closing.Proof.Tie as tie
 
 words-kept-requires : tie.Need-words-kept-requires
 words-kept-requires c κs = search needs

@@ -1,7 +1,8 @@
 -- `copy_up` meets its contract: two runs, the unordered records and the ordered ones. Assumes nothing.
+mod Tie
 use borrow.Author.Needs.{needs}
 use Rattle.context.proofs.copy_up.Statement.{statement}
-use Rattle.context.proofs.copy_up.Tie as tie
+use Rattle.context.proofs.copy_up.Proof.Tie as tie
 use Rattle.context.specs.Area.{raised}
 
 mul-first : tie.Need-mul-first

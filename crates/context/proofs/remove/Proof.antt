@@ -1,7 +1,8 @@
 -- `remove` meets its contract: the records after the place move down. Assumes nothing.
+mod Tie
 use borrow.Author.Needs.{needs}
 use Rattle.context.proofs.remove.Statement.{statement}
-use Rattle.context.proofs.remove.Tie as tie
+use Rattle.context.proofs.remove.Proof.Tie as tie
 use Rattle.context.specs.Area.{removed}
 
 mul-at : tie.Need-mul-at

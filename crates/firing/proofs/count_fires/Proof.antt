@@ -1,4 +1,5 @@
 -- So many of the first i records fire. Assumes nothing.
+mod Tie
 use borrow.Author.Needs.{needs}
 use native.Mathlib.Omega.{arith}
 use mathlib.Core.Path.{_≡_}
@@ -6,7 +7,7 @@ use Prim.Native.Nat.{_-_, _≤_}
 use Rattle.representation.specs.Leaves.{firingIn}
 use Rattle.firing.proofs.Walk.{counts-start, counts-one, counts-none, counts-end}
 use Rattle.firing.proofs.count_fires.Statement.{statement}
-use Rattle.firing.proofs.count_fires.Tie as tie
+use Rattle.firing.proofs.count_fires.Proof.Tie as tie
 
 abbrev Inv-loop : tie.InvT-loop
 Inv-loop f w q all n₀ i₀ n i = (i ≤ all) × (n ≤ i) × (n ≡ firingIn f w (q .level) all i)

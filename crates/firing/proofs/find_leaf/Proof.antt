@@ -1,10 +1,11 @@
 -- What is left of the search for the leaf is the search from i on. Assumes nothing.
+mod Tie
 use borrow.Author.Needs.{needs}
 use native.Mathlib.Omega.{arith}
 use Prim.Native.Nat.{_-_}
 use Rattle.firing.proofs.Walk.{Looking, looking-starts, looking-found, looking-on, looking-ends}
 use Rattle.firing.proofs.find_leaf.Statement.{statement}
-use Rattle.firing.proofs.find_leaf.Tie as tie
+use Rattle.firing.proofs.find_leaf.Proof.Tie as tie
 
 abbrev Inv-loop : tie.InvT-loop
 Inv-loop f w leaf l n i₀ i = Looking f w l n leaf i

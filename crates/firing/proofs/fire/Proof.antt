@@ -1,11 +1,12 @@
 -- Rule 2 by its outcome: nothing fires, a shortage, or all that fire. Assumes nothing.
+mod Tie
 use native.Mathlib.Omega.{arith}
 use Rattle.representation.specs.Turning.{turns-on, turns-end, turns-try}
 use Rattle.representation.proofs.Settle.{settle-try, settle-short, settle-goes}
 use Rattle.firing.proofs.Fall.{count-few, may-fire, may-spend}
 use borrow.Author.Needs.{needs}
 use Rattle.firing.proofs.fire.Statement.{statement}
-use Rattle.firing.proofs.fire.Tie as tie
+use Rattle.firing.proofs.fire.Proof.Tie as tie
 
 count-fires-requires : tie.Need-count-fires-requires
 count-fires-requires c κs = search needs

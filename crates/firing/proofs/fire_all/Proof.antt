@@ -1,4 +1,5 @@
 -- For whatever the walk may start from, it has come down to position i. Assumes nothing.
+mod Tie
 use borrow.Author.Needs.{needs}
 use native.Mathlib.Omega.{arith}
 use mathlib.Core.Path.{_≡_}
@@ -8,7 +9,7 @@ use Rattle.context.specs.declared.Limits.{Limits}
 use Rattle.representation.proofs.Firing.{FallenTo}
 use Rattle.firing.proofs.Fall.{Start, start-of, walk-starts, walk-fits, walk-past, walk-some, walk-fires, walk-ends, before-one}
 use Rattle.firing.proofs.fire_all.Statement.{statement}
-use Rattle.firing.proofs.fire_all.Tie as tie
+use Rattle.firing.proofs.fire_all.Proof.Tie as tie
 
 abbrev Inv-loop : tie.InvT-loop
 Inv-loop f t₀ w₀ end p₀ n₀ i₀ t w p n i =

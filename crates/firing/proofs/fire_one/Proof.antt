@@ -1,10 +1,11 @@
 -- What a record that fires leaves: its node, the area without it, and what it yields. Assumes nothing.
+mod Tie
 use mathlib.Core.Path.{ap, _∙_}
 use Rattle.context.specs.Moves.{pushed}
 use Rattle.firing.proofs.Walk.{room-without, node-fired, area-fired}
 use borrow.Author.Needs.{needs}
 use Rattle.firing.proofs.fire_one.Statement.{statement}
-use Rattle.firing.proofs.fire_one.Tie as tie
+use Rattle.firing.proofs.fire_one.Proof.Tie as tie
 
 mul-first : tie.Need-mul-first
 mul-first c = search needs

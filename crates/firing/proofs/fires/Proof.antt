@@ -1,8 +1,9 @@
 -- Whether a record fires goes by the kind of its formula and of what that goes from. Assumes nothing.
+mod Tie
 use Rattle.firing.proofs.Walk.{no-implication, by-leaf, by-other}
 use borrow.Author.Needs.{needs}
 use Rattle.firing.proofs.fires.Statement.{statement}
-use Rattle.firing.proofs.fires.Tie as tie
+use Rattle.firing.proofs.fires.Proof.Tie as tie
 
 mul-formula-at : tie.Need-mul-formula-at
 mul-formula-at c = search needs

@@ -1,8 +1,9 @@
 -- The goal's leaf is looked for only where the goal is one. Assumes nothing.
+mod Tie
 use Rattle.firing.proofs.Walk.{place-as, place-none}
 use borrow.Author.Needs.{needs}
 use Rattle.firing.proofs.goal_leaf.Statement.{statement}
-use Rattle.firing.proofs.goal_leaf.Tie as tie
+use Rattle.firing.proofs.goal_leaf.Proof.Tie as tie
 
 word-requires : tie.Need-word-requires
 word-requires c κs = search needs

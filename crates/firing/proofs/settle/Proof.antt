@@ -1,10 +1,11 @@
 -- Rule 1, and then rule 2. Assumes nothing.
+mod Tie
 use borrow.Author.Needs.{needs}
 use Rattle.representation.specs.Turning.{turns-end}
 use Rattle.representation.proofs.Settle.{settle-leaf}
 use Rattle.firing.proofs.Fall.{absent-by}
 use Rattle.firing.proofs.settle.Statement.{statement}
-use Rattle.firing.proofs.settle.Tie as tie
+use Rattle.firing.proofs.settle.Proof.Tie as tie
 
 goal-leaf-requires : tie.Need-goal-leaf-requires
 goal-leaf-requires c κs = search needs

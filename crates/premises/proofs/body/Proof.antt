@@ -1,4 +1,5 @@
 -- `body` meets its contract: a charge that passes a limit, or the body of an implication. Assumes nothing.
+mod Tie
 use borrow.Author.Needs.{needs}
 use native.Mathlib.Omega.{arith}
 use Prim.Native.Nat.{_+_}
@@ -6,7 +7,7 @@ use Rattle.premises.specs.Prepared.{lacks}
 use Rattle.representation.proofs.Areas.{fields}
 use Rattle.premises.proofs.Makes.{up-room, records-room, copy-room, spend-room, body-on}
 use Rattle.premises.proofs.body.Statement.{statement}
-use Rattle.premises.proofs.body.Tie as tie
+use Rattle.premises.proofs.body.Proof.Tie as tie
 
 add-used : tie.Need-add-used
 add-used c = search needs

@@ -1,4 +1,5 @@
 -- `first` meets its contract: a charge that passes a limit, or the first premise of rule 4. Assumes nothing.
+mod Tie
 use borrow.Author.Needs.{needs}
 use native.Mathlib.Omega.{arith}
 use Prim.Native.Nat.{_+_}
@@ -8,7 +9,7 @@ use Rattle.theory.specs.Term.{fn, sixOf}
 use Rattle.representation.proofs.Areas.{fields}
 use Rattle.premises.proofs.Makes.{up-room, indices-room, area-room, copy-room, spend-room, nested-room, first-on}
 use Rattle.premises.proofs.first.Statement.{statement}
-use Rattle.premises.proofs.first.Tie as tie
+use Rattle.premises.proofs.first.Proof.Tie as tie
 
 add-used : tie.Need-add-used
 add-used c = search needs

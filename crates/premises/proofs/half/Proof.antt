@@ -1,4 +1,5 @@
 -- `half` meets its contract: a charge that passes a limit, or a half of a disjunction in its place. Assumes nothing.
+mod Tie
 use borrow.Author.Needs.{needs}
 use native.Mathlib.Omega.{arith}
 use Prim.Native.Nat.{_+_}
@@ -6,7 +7,7 @@ use Rattle.premises.specs.Prepared.{lacks}
 use Rattle.representation.proofs.Areas.{fields}
 use Rattle.premises.proofs.Makes.{up-room, records-room, area-room, spend-room, half-on, half-tested}
 use Rattle.premises.proofs.half.Statement.{statement}
-use Rattle.premises.proofs.half.Tie as tie
+use Rattle.premises.proofs.half.Proof.Tie as tie
 
 add-used : tie.Need-add-used
 add-used c = search needs

@@ -1,4 +1,5 @@
 -- `second` meets its contract: a charge that passes a limit, or the second premise of rule 4. Assumes nothing.
+mod Tie
 use borrow.Author.Needs.{needs}
 use native.Mathlib.Omega.{arith}
 use Prim.Native.Nat.{_+_}
@@ -7,7 +8,7 @@ use mathlib.Core.Path.{refl}
 use Rattle.representation.proofs.Areas.{fields}
 use Rattle.premises.proofs.Makes.{up-room, area-room, copy-room, spend-room, second-on}
 use Rattle.premises.proofs.second.Statement.{statement}
-use Rattle.premises.proofs.second.Tie as tie
+use Rattle.premises.proofs.second.Proof.Tie as tie
 
 add-lack : tie.Need-add-lack
 add-lack c = search needs

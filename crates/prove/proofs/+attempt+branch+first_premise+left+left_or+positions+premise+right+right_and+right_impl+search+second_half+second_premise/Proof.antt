@@ -1,4 +1,5 @@
 -- The cycle meets its contracts, with the weight of the sequent as the measure. Assumes nothing.
+mod Tie
 mod Claims
 mod Attempt
 mod Branch
@@ -13,36 +14,36 @@ mod RightImpl
 mod Search
 mod SecondHalf
 mod SecondPremise
-use Rattle.prove.proofs.attempt.Reads as attempt
-use Rattle.prove.proofs.+attempt+branch+first_premise+left+left_or+positions+premise+right+right_and+right_impl+search+second_half+second_premise.Lts-attempt as attempt-lts
-use Rattle.prove.proofs.branch.Reads as branch
-use Rattle.prove.proofs.+attempt+branch+first_premise+left+left_or+positions+premise+right+right_and+right_impl+search+second_half+second_premise.Lts-branch as branch-lts
-use Rattle.prove.proofs.first_premise.Reads as first-premise
-use Rattle.prove.proofs.+attempt+branch+first_premise+left+left_or+positions+premise+right+right_and+right_impl+search+second_half+second_premise.Lts-first_premise as first-premise-lts
-use Rattle.prove.proofs.left.Reads as left
-use Rattle.prove.proofs.+attempt+branch+first_premise+left+left_or+positions+premise+right+right_and+right_impl+search+second_half+second_premise.Lts-left as left-lts
-use Rattle.prove.proofs.left_or.Reads as left-or
-use Rattle.prove.proofs.+attempt+branch+first_premise+left+left_or+positions+premise+right+right_and+right_impl+search+second_half+second_premise.Lts-left_or as left-or-lts
-use Rattle.prove.proofs.positions.Reads as positions
-use Rattle.prove.proofs.+attempt+branch+first_premise+left+left_or+positions+premise+right+right_and+right_impl+search+second_half+second_premise.Lts-positions as positions-lts
-use Rattle.prove.proofs.premise.Reads as premise
-use Rattle.prove.proofs.+attempt+branch+first_premise+left+left_or+positions+premise+right+right_and+right_impl+search+second_half+second_premise.Lts-premise as premise-lts
-use Rattle.prove.proofs.right.Reads as right
-use Rattle.prove.proofs.+attempt+branch+first_premise+left+left_or+positions+premise+right+right_and+right_impl+search+second_half+second_premise.Lts-right as right-lts
-use Rattle.prove.proofs.right_and.Reads as right-and
-use Rattle.prove.proofs.+attempt+branch+first_premise+left+left_or+positions+premise+right+right_and+right_impl+search+second_half+second_premise.Lts-right_and as right-and-lts
-use Rattle.prove.proofs.right_impl.Reads as right-impl
-use Rattle.prove.proofs.+attempt+branch+first_premise+left+left_or+positions+premise+right+right_and+right_impl+search+second_half+second_premise.Lts-right_impl as right-impl-lts
-use Rattle.prove.proofs.search.Reads as search′
-use Rattle.prove.proofs.+attempt+branch+first_premise+left+left_or+positions+premise+right+right_and+right_impl+search+second_half+second_premise.Lts-search as search-lts
-use Rattle.prove.proofs.second_half.Reads as second-half
-use Rattle.prove.proofs.+attempt+branch+first_premise+left+left_or+positions+premise+right+right_and+right_impl+search+second_half+second_premise.Lts-second_half as second-half-lts
-use Rattle.prove.proofs.second_premise.Reads as second-premise
-use Rattle.prove.proofs.+attempt+branch+first_premise+left+left_or+positions+premise+right+right_and+right_impl+search+second_half+second_premise.Lts-second_premise as second-premise-lts
-use Rattle.premises.proofs.half.Reads as half-reads
-use Rattle.premises.proofs.second.Reads as second-reads
+use Rattle.prove.proofs.Generated.attempt.Reads as attempt
+use Rattle.prove.proofs.Generated.attempt.Lts as attempt-lts
+use Rattle.prove.proofs.Generated.branch.Reads as branch
+use Rattle.prove.proofs.Generated.branch.Lts as branch-lts
+use Rattle.prove.proofs.Generated.first_premise.Reads as first-premise
+use Rattle.prove.proofs.Generated.first_premise.Lts as first-premise-lts
+use Rattle.prove.proofs.Generated.left.Reads as left
+use Rattle.prove.proofs.Generated.left.Lts as left-lts
+use Rattle.prove.proofs.Generated.left_or.Reads as left-or
+use Rattle.prove.proofs.Generated.left_or.Lts as left-or-lts
+use Rattle.prove.proofs.Generated.positions.Reads as positions
+use Rattle.prove.proofs.Generated.positions.Lts as positions-lts
+use Rattle.prove.proofs.Generated.premise.Reads as premise
+use Rattle.prove.proofs.Generated.premise.Lts as premise-lts
+use Rattle.prove.proofs.Generated.right.Reads as right
+use Rattle.prove.proofs.Generated.right.Lts as right-lts
+use Rattle.prove.proofs.Generated.right_and.Reads as right-and
+use Rattle.prove.proofs.Generated.right_and.Lts as right-and-lts
+use Rattle.prove.proofs.Generated.right_impl.Reads as right-impl
+use Rattle.prove.proofs.Generated.right_impl.Lts as right-impl-lts
+use Rattle.prove.proofs.Generated.search.Reads as search′
+use Rattle.prove.proofs.Generated.search.Lts as search-lts
+use Rattle.prove.proofs.Generated.second_half.Reads as second-half
+use Rattle.prove.proofs.Generated.second_half.Lts as second-half-lts
+use Rattle.prove.proofs.Generated.second_premise.Reads as second-premise
+use Rattle.prove.proofs.Generated.second_premise.Lts as second-premise-lts
+use Rattle.premises.proofs.Generated.half.Reads as half-reads
+use Rattle.premises.proofs.Generated.second.Reads as second-reads
 use Rattle.prove.proofs.+attempt+branch+first_premise+left+left_or+positions+premise+right+right_and+right_impl+search+second_half+second_premise.{statement}
-use Rattle.prove.proofs.+attempt+branch+first_premise+left+left_or+positions+premise+right+right_and+right_impl+search+second_half+second_premise.Tie.{close}
+use Rattle.prove.proofs.+attempt+branch+first_premise+left+left_or+positions+premise+right+right_and+right_impl+search+second_half+second_premise.Proof.Tie.{close}
 use Rattle.prove.proofs.+attempt+branch+first_premise+left+left_or+positions+premise+right+right_and+right_impl+search+second_half+second_premise.Proof.Claims.{μ-attempt, μ-branch, μ-first-premise, μ-left, μ-left-or, μ-positions, μ-premise, μ-right, μ-right-and, μ-right-impl, μ-search, μ-second-half, μ-second-premise, attempt-at, branch-at, first-premise-at, left-at, left-below, left-or-at, positions-at, premise-at, right-at, right-and-at, right-impl-at, search-at, second-half-at, second-premise-at, attempt-claims, first-premise-claims, left-claims, left-or-claims, positions-claims, premise-claims, right-claims, right-and-claims, right-impl-claims, search-claims, second-half-claims}
 use Rattle.prove.proofs.+attempt+branch+first_premise+left+left_or+positions+premise+right+right_and+right_impl+search+second_half+second_premise.Proof.Attempt as attempt-answers
 use Rattle.prove.proofs.+attempt+branch+first_premise+left+left_or+positions+premise+right+right_and+right_impl+search+second_half+second_premise.Proof.Branch as branch-answers

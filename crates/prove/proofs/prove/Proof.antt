@@ -1,4 +1,5 @@
 -- `prove`: a refusal changes nothing; what the search answers is closed as theory closes it. Assumes nothing.
+mod Tie
 use borrow.Author.Needs.{needs}
 use mathlib.Core.Path.{sym, _∙_}
 use Rattle.claim.proofs.Whole.{tested-passed, called-tested, ends-keeps, called-closed}
@@ -6,7 +7,7 @@ use lib.ListN.{length}
 use denote.Ref.{now}
 use Rattle.claim.specs.Lent.{claimOf}
 use Rattle.prove.proofs.prove.Statement.{statement}
-use Rattle.prove.proofs.prove.Tie as tie
+use Rattle.prove.proofs.prove.Proof.Tie as tie
 
 refusal-requires : tie.Need-refusal-requires
 refusal-requires c κs = search needs

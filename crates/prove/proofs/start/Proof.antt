@@ -1,4 +1,5 @@
 -- `start`: the assumptions are written, and right comes to what the whole search answers; or there is no room for them. Assumes nothing.
+mod Tie
 use borrow.Author.Needs.{needs}
 use mathlib.Core.Path.{refl, ap}
 use native.Mathlib.Omega.{arith}
@@ -9,7 +10,7 @@ use lib.ListN.{length}
 use denote.Ref.{now}
 use Rattle.claim.specs.Lent.{claimOf}
 use Rattle.prove.proofs.start.Statement.{statement}
-use Rattle.prove.proofs.start.Tie as tie
+use Rattle.prove.proofs.start.Proof.Tie as tie
 
 limits-requires : tie.Need-limits-requires
 limits-requires c κs = search needs

@@ -1,4 +1,5 @@
 -- `and_impl` meets its contract: a charge that passes a limit, or A→(B→C) in the place of (A∧B)→C. Assumes nothing.
+mod Tie
 use borrow.Author.Needs.{needs}
 use native.Mathlib.Omega.{arith}
 use Rattle.theory.specs.NameText.{namesIn}
@@ -6,7 +7,7 @@ use Rattle.theory.specs.Names.{skipped}
 use Rattle.rules.proofs.Charged.{push-room}
 use Rattle.rules.proofs.LeftMakes.{first-near, second-near, curry-short, curry-room, curry-in, curry-on}
 use Rattle.rules.proofs.and_impl.Statement.{statement}
-use Rattle.rules.proofs.and_impl.Tie as tie
+use Rattle.rules.proofs.and_impl.Proof.Tie as tie
 
 add-outer : tie.Need-add-outer
 add-outer c = search needs

@@ -1,4 +1,5 @@
 -- `left_and` meets its contract: a charge that passes a limit, or both halves in the place of A∧B. Assumes nothing.
+mod Tie
 use borrow.Author.Needs.{needs}
 use native.Mathlib.Omega.{arith}
 use Prim.Native.Nat.{_+_}
@@ -6,7 +7,7 @@ use Rattle.rules.proofs.Charged.{push-room, push-room-more, spend-room}
 use Rattle.rules.proofs.LeftTurns.{and-short, and-on}
 use mathlib.Core.Path.{refl}
 use Rattle.rules.proofs.left_and.Statement.{statement}
-use Rattle.rules.proofs.left_and.Tie as tie
+use Rattle.rules.proofs.left_and.Proof.Tie as tie
 
 add-lack : tie.Need-add-lack
 add-lack c = search needs

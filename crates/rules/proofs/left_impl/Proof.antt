@@ -1,4 +1,5 @@
 -- `left_impl` meets its contract: each kind of what the implication goes from by its law. Assumes nothing.
+mod Tie
 use borrow.Author.Needs.{needs}
 use mathlib.Core.Path.{refl}
 use Rattle.theory.specs.NameText.{namesIn}
@@ -6,7 +7,7 @@ use Rattle.theory.specs.Names.{skipped}
 use Rattle.rules.proofs.Charged.{push-room}
 use Rattle.rules.proofs.LeftTurns.{last-from, drop-impl-on, wait-on}
 use Rattle.rules.proofs.left_impl.Statement.{statement}
-use Rattle.rules.proofs.left_impl.Tie as tie
+use Rattle.rules.proofs.left_impl.Proof.Tie as tie
 
 left-requires : tie.Need-left-requires
 left-requires c κs = search needs

@@ -1,4 +1,5 @@
 -- `left_rule` meets its contract: each kind of the last formula by its law. Assumes nothing.
+mod Tie
 use borrow.Author.Needs.{needs}
 use native.Mathlib.Omega.{arith}
 use mathlib.Core.Path.{refl}
@@ -8,7 +9,7 @@ use Rattle.theory.specs.Names.{skipped}
 use Rattle.rules.proofs.Charged.{push-room}
 use Rattle.rules.proofs.LeftTurns.{last-of, drop-on, abort-on, split-on, settle-on}
 use Rattle.rules.proofs.left_rule.Statement.{statement}
-use Rattle.rules.proofs.left_rule.Tie as tie
+use Rattle.rules.proofs.left_rule.Proof.Tie as tie
 
 top-requires : tie.Need-top-requires
 top-requires c κs =

@@ -1,7 +1,8 @@
 -- `nested` meets its contract: both kinds are tested. Assumes nothing.
+mod Tie
 use borrow.Author.Needs.{needs}
 use Rattle.rules.proofs.nested.Statement.{statement}
-use Rattle.rules.proofs.nested.Tie as tie
+use Rattle.rules.proofs.nested.Proof.Tie as tie
 use Rattle.rules.proofs.Nests.{nested-other, nested-from}
 
 mul-formula-at : tie.Need-mul-formula-at

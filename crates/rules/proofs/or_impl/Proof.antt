@@ -1,4 +1,5 @@
 -- `or_impl` meets its contract: a charge that passes a limit, or A→C and B→C in the place of (A∨B)→C. Assumes nothing.
+mod Tie
 use borrow.Author.Needs.{needs}
 use native.Mathlib.Omega.{arith}
 use Prim.Native.Nat.{_+_}
@@ -9,7 +10,7 @@ use Rattle.theory.specs.Names.{skipped}
 use Rattle.rules.proofs.Charged.{push-room, push-room-more}
 use Rattle.rules.proofs.LeftMakes.{first-near, second-near, sides-short, sides-room, sides-in, sides-on}
 use Rattle.rules.proofs.or_impl.Statement.{statement}
-use Rattle.rules.proofs.or_impl.Tie as tie
+use Rattle.rules.proofs.or_impl.Proof.Tie as tie
 
 add-two : tie.Need-add-two
 add-two c = search needs

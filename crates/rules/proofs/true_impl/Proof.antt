@@ -1,11 +1,12 @@
 -- `true_impl` meets its contract: a charge that passes a limit, or C in the place of True→C. Assumes nothing.
+mod Tie
 use borrow.Author.Needs.{needs}
 use native.Mathlib.Omega.{arith}
 use Prim.Native.Nat.{_+_}
 use Rattle.rules.proofs.Charged.{push-room, spend-room}
 use Rattle.rules.proofs.LeftTurns.{true-short, true-on}
 use Rattle.rules.proofs.true_impl.Statement.{statement}
-use Rattle.rules.proofs.true_impl.Tie as tie
+use Rattle.rules.proofs.true_impl.Proof.Tie as tie
 
 add-lack : tie.Need-add-lack
 add-lack c = search needs

@@ -1,11 +1,12 @@
 -- `turn` meets its contract: no step is left, a rule of left, or with nothing ordered a rule of search. Assumes nothing.
+mod Tie
 use borrow.Author.Needs.{needs}
 use native.Mathlib.Omega.{arith}
 use Rattle.theory.specs.NameText.{namesIn}
 use Rattle.theory.specs.Names.{skipped}
 use Rattle.rules.proofs.Turning.{rep-stepped, turned-stop, turned-left, turned-stop-search, turned-search}
 use Rattle.rules.proofs.turn.Statement.{statement}
-use Rattle.rules.proofs.turn.Tie as tie
+use Rattle.rules.proofs.turn.Proof.Tie as tie
 
 returns : tie.Need-returns
 returns c =

@@ -1,4 +1,5 @@
 -- `mark_parts`: a word of a kind that has parts has both marked. Assumes nothing.
+mod Tie
 use borrow.Author.Needs.{needs}
 use Prim.Native.Nat.{ℕ, _≤_, _<_}
 use mathlib.Core.Path.{ap, ap₂, _∙_, subst}
@@ -10,7 +11,7 @@ use Rattle.context.specs.Area.{Rec}
 use Rattle.status.specs.Marks.{mark}
 use Rattle.status.proofs.Shapes.{no-parts-low, no-parts-high, both-parts}
 use Rattle.status.proofs.mark_parts.Statement.{statement}
-use Rattle.status.proofs.mark_parts.Tie as tie
+use Rattle.status.proofs.mark_parts.Proof.Tie as tie
 
 kind-requires : tie.Need-kind-requires
 kind-requires c κs = search needs

@@ -1,4 +1,5 @@
 -- `marked_open` goes down with the same answer; what is passed has handed its mark to its parts. Assumes nothing.
+mod Tie
 use borrow.Author.Needs.{needs}
 use native.Mathlib.Omega.{arith}
 use Prim.Native.Nat.{ℕ}
@@ -8,7 +9,7 @@ use Rattle.theory.specs.Form.{shape}
 use Rattle.status.specs.Marks.{openByItself}
 use Rattle.status.proofs.Marked.{Going, going-starts, going-past, going-stops, going-on, going-ends}
 use Rattle.status.proofs.marked_open.Statement.{statement}
-use Rattle.status.proofs.marked_open.Tie as tie
+use Rattle.status.proofs.marked_open.Proof.Tie as tie
 
 abbrev Inv-loop : tie.InvT-loop
 Inv-loop f w₀ count from i₀ w i = Going f count from w₀ w i

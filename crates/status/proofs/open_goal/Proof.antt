@@ -1,4 +1,5 @@
 -- `open_goal`: with the goal alone marked, a marked formula is open if the goal is. Assumes nothing.
+mod Tie
 use borrow.Author.Needs.{needs}
 use Prim.Native.Nat.{ℕ, suc, _+_}
 use mathlib.Core.Path.{_≡_, ap, ap₂, _∙_}
@@ -11,7 +12,7 @@ use Rattle.context.specs.Area.{Rec, zeroed}
 use Rattle.status.specs.Marks.{mark, someOpen}
 use Rattle.status.proofs.Marked.{goal-marked}
 use Rattle.status.proofs.open_goal.Statement.{statement}
-use Rattle.status.proofs.open_goal.Tie as tie
+use Rattle.status.proofs.open_goal.Proof.Tie as tie
 
 put-requires : tie.Need-put-requires
 put-requires c κs = search needs

@@ -1,10 +1,11 @@
 -- `search_negation`: with no room it says nothing; else the second claim is searched. Assumes nothing.
+mod Tie
 use borrow.Author.Needs.{needs}
 use mathlib.Core.Path.{refl, _∙_}
 use denote.Ref.{now}
 use Rattle.status.proofs.Second.{few-words, no-room, appended, second-answers}
 use Rattle.status.proofs.search_negation.Statement.{statement}
-use Rattle.status.proofs.search_negation.Tie as tie
+use Rattle.status.proofs.search_negation.Proof.Tie as tie
 
 add-if1 : tie.Need-add-if1
 add-if1 c =

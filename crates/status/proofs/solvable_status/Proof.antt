@@ -1,11 +1,12 @@
 -- `solvable_status`: what is left after each outcome of the first search is what theory's status leaves. Assumes nothing.
+mod Tie
 use borrow.Author.Needs.{needs}
 use mathlib.Core.Path.{sym}
 use native.Mathlib.Omega.{arith}
 use denote.Ref.{now}
 use Rattle.status.proofs.Whole.{answered-as, proved-solvable, ran-short, was-refused, failed-asks, failed-answered}
 use Rattle.status.proofs.solvable_status.Statement.{statement}
-use Rattle.status.proofs.solvable_status.Tie as tie
+use Rattle.status.proofs.solvable_status.Proof.Tie as tie
 
 search-requires : tie.Need-search-requires
 search-requires c κs = search needs

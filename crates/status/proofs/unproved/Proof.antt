@@ -1,4 +1,5 @@
 -- `unproved`: a closed goal is settled; of an open one its negation tells. Assumes nothing.
+mod Tie
 use borrow.Author.Needs.{needs}
 use Prim.Native.Nat.{ℕ}
 use mathlib.Core.Path.{_≡_, refl, sym, ap, _∙_, subst}
@@ -11,7 +12,7 @@ use Rattle.context.specs.Area.{zeroed}
 use Rattle.status.specs.Whole.{inquiryOf}
 use Rattle.status.proofs.Second.{marks-ask, goal-open, goal-closed}
 use Rattle.status.proofs.unproved.Statement.{statement}
-use Rattle.status.proofs.unproved.Tie as tie
+use Rattle.status.proofs.unproved.Proof.Tie as tie
 
 open-goal-requires : tie.Need-open-goal-requires
 open-goal-requires c κs =

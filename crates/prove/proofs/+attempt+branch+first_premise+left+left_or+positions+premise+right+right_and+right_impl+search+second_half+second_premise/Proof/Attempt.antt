@@ -9,8 +9,8 @@ use Rattle.representation.proofs.Falls.{weigh-back}
 use Rattle.premises.proofs.Asking.{asked-at}
 use Rattle.premises.proofs.TryWays.{try-short, try-failed, try-back, try-nested, try-both, try-second-short, try-second-failed}
 use Rattle.prove.proofs.At.{first-at}
-use Rattle.prove.proofs.attempt.Reads as attempt
-use Rattle.prove.proofs.+attempt+branch+first_premise+left+left_or+positions+premise+right+right_and+right_impl+search+second_half+second_premise.Lts-attempt as attempt-lts
+use Rattle.prove.proofs.Generated.attempt.Reads as attempt
+use Rattle.prove.proofs.Generated.attempt.Lts as attempt-lts
 use Rattle.prove.proofs.+attempt+branch+first_premise+left+left_or+positions+premise+right+right_and+right_impl+search+second_half+second_premise.Proof.Claims.{attempt-at, attempt-claims}
 
 pub first-premise-requires : (t : ℕ) → attempt-lts.Need-first-premise-requires (attempt-claims t) (attempt-at t) attempt.Post

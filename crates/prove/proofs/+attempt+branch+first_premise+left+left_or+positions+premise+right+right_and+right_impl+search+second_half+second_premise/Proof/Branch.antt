@@ -8,8 +8,8 @@ use Rattle.theory.specs.Meter as M
 use Rattle.rules.proofs.LeftMakes.{first-near}
 use Rattle.premises.proofs.Asking.{prepared-at, made-for, asked-lacks, asked-by}
 use Rattle.premises.proofs.LeftWays.{half-less}
-use Rattle.prove.proofs.branch.Reads as branch
-use Rattle.prove.proofs.+attempt+branch+first_premise+left+left_or+positions+premise+right+right_and+right_impl+search+second_half+second_premise.Lts-branch as branch-lts
+use Rattle.prove.proofs.Generated.branch.Reads as branch
+use Rattle.prove.proofs.Generated.branch.Lts as branch-lts
 use Rattle.prove.proofs.+attempt+branch+first_premise+left+left_or+positions+premise+right+right_and+right_impl+search+second_half+second_premise.Proof.Claims.{branch-at, branch-claims}
 
 pub half-requires : (t : ℕ) → branch-lts.Need-half-requires (branch-claims t) (branch-at t) branch.Post

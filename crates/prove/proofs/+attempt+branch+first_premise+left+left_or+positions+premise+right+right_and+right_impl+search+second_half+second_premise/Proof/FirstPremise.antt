@@ -11,8 +11,8 @@ use Rattle.theory.proofs.Derive.{fresh-above}
 use Rattle.rules.proofs.LeftMakes.{first-near, second-near}
 use Rattle.premises.proofs.Asking.{prepared-at, made-for, asked-lacks, asked-by}
 use Rattle.premises.proofs.SearchWays.{first-less}
-use Rattle.prove.proofs.first_premise.Reads as first-premise
-use Rattle.prove.proofs.+attempt+branch+first_premise+left+left_or+positions+premise+right+right_and+right_impl+search+second_half+second_premise.Lts-first_premise as first-premise-lts
+use Rattle.prove.proofs.Generated.first_premise.Reads as first-premise
+use Rattle.prove.proofs.Generated.first_premise.Lts as first-premise-lts
 use Rattle.prove.proofs.+attempt+branch+first_premise+left+left_or+positions+premise+right+right_and+right_impl+search+second_half+second_premise.Proof.Claims.{first-premise-at, first-premise-claims}
 
 pub fresh-requires : (t : ℕ) → first-premise-lts.Need-fresh-requires (first-premise-claims t) (first-premise-at t) first-premise.Post

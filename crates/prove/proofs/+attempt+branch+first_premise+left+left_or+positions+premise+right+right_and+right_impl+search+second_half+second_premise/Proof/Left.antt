@@ -10,8 +10,8 @@ use Rattle.theory.specs.Meter as M
 use Rattle.representation.specs.Reading.{lent}
 use Rattle.representation.specs.Meaning.{weigh, Onward}
 use Rattle.premises.proofs.LeftWays.{onward-refl, onward-trans, turn-goes, turn-ends, turn-parts, turn-tries}
-use Rattle.prove.proofs.left.Reads as left
-use Rattle.prove.proofs.+attempt+branch+first_premise+left+left_or+positions+premise+right+right_and+right_impl+search+second_half+second_premise.Lts-left as left-lts
+use Rattle.prove.proofs.Generated.left.Reads as left
+use Rattle.prove.proofs.Generated.left.Lts as left-lts
 use Rattle.prove.proofs.+attempt+branch+first_premise+left+left_or+positions+premise+right+right_and+right_impl+search+second_half+second_premise.Proof.Claims.{left-at, left-claims}
 
 abbrev pub Inv-loop : left-lts.InvT-loop

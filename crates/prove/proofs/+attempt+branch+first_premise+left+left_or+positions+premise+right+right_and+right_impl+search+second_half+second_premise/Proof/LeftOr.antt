@@ -13,8 +13,8 @@ use Rattle.representation.proofs.Falls.{weigh-back}
 use Rattle.rules.proofs.LeftMakes.{first-near}
 use Rattle.premises.proofs.Asking.{asked-at, found-back}
 use Rattle.premises.proofs.LeftWays.{halves-of, splits-back, right-back, or-lost, or-lost-second, or-found}
-use Rattle.prove.proofs.left_or.Reads as left-or
-use Rattle.prove.proofs.+attempt+branch+first_premise+left+left_or+positions+premise+right+right_and+right_impl+search+second_half+second_premise.Lts-left_or as left-or-lts
+use Rattle.prove.proofs.Generated.left_or.Reads as left-or
+use Rattle.prove.proofs.Generated.left_or.Lts as left-or-lts
 use Rattle.prove.proofs.+attempt+branch+first_premise+left+left_or+positions+premise+right+right_and+right_impl+search+second_half+second_premise.Proof.Claims.{left-or-at, left-or-claims}
 
 pub top-requires : (t : ℕ) → left-or-lts.Need-top-requires (left-or-claims t) (left-or-at t) left-or.Post

@@ -12,8 +12,8 @@ use Rattle.representation.specs.Reading.{lent}
 use Rattle.representation.proofs.Ranging.{Going, going-starts, going-skips, going-fails, ranges-found, ranges-short, ranges-end}
 use Rattle.representation.proofs.Falls.{weigh-back}
 use Rattle.prove.proofs.At.{tries-at, nested-yes, nested-no}
-use Rattle.prove.proofs.positions.Reads as positions
-use Rattle.prove.proofs.+attempt+branch+first_premise+left+left_or+positions+premise+right+right_and+right_impl+search+second_half+second_premise.Lts-positions as positions-lts
+use Rattle.prove.proofs.Generated.positions.Reads as positions
+use Rattle.prove.proofs.Generated.positions.Lts as positions-lts
 use Rattle.prove.proofs.+attempt+branch+first_premise+left+left_or+positions+premise+right+right_and+right_impl+search+second_half+second_premise.Proof.Claims.{positions-at, positions-claims}
 
 abbrev pub Inv-loop : positions-lts.InvT-loop

@@ -11,8 +11,8 @@ use Rattle.representation.proofs.Combine.{stop, entered}
 use Rattle.representation.proofs.Right.{right-true, right-else}
 use Rattle.representation.proofs.FallsRight.{right-to-left}
 use Rattle.premises.proofs.Asking.{rep-step, weigh-step}
-use Rattle.prove.proofs.right.Reads as right
-use Rattle.prove.proofs.+attempt+branch+first_premise+left+left_or+positions+premise+right+right_and+right_impl+search+second_half+second_premise.Lts-right as right-lts
+use Rattle.prove.proofs.Generated.right.Reads as right
+use Rattle.prove.proofs.Generated.right.Lts as right-lts
 use Rattle.prove.proofs.+attempt+branch+first_premise+left+left_or+positions+premise+right+right_and+right_impl+search+second_half+second_premise.Proof.Claims.{right-at, right-claims}
 
 pub returns : (t : ℕ) → right-lts.Need-returns (right-claims t) (right-at t) right.Post

@@ -12,8 +12,8 @@ use Rattle.premises.proofs.Asking.{raised-at, raised-found}
 use Rattle.premises.proofs.Asking.{kind-back}
 use Rattle.premises.proofs.RightWays.{and-lost, and-lost-second, and-found}
 use Rattle.premises.proofs.Less.{and-left-less, and-right-less}
-use Rattle.prove.proofs.right_and.Reads as right-and
-use Rattle.prove.proofs.+attempt+branch+first_premise+left+left_or+positions+premise+right+right_and+right_impl+search+second_half+second_premise.Lts-right_and as right-and-lts
+use Rattle.prove.proofs.Generated.right_and.Reads as right-and
+use Rattle.prove.proofs.Generated.right_and.Lts as right-and-lts
 use Rattle.prove.proofs.+attempt+branch+first_premise+left+left_or+positions+premise+right+right_and+right_impl+search+second_half+second_premise.Proof.Claims.{right-and-at, right-and-claims}
 
 pub left-requires : (t : ℕ) → right-and-lts.Need-left-requires (right-and-claims t) (right-and-at t) right-and.Post

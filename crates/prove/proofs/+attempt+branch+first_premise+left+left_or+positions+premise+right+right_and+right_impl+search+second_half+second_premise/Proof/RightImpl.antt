@@ -10,8 +10,8 @@ use Rattle.rules.proofs.LeftMakes.{first-near}
 use Rattle.premises.proofs.Asking.{prepared-at, made-for}
 use Rattle.premises.proofs.RightWays.{impl-lacks, impl-falls, impl-lost, impl-found}
 use Rattle.prove.proofs.At.{meets-at}
-use Rattle.prove.proofs.right_impl.Reads as right-impl
-use Rattle.prove.proofs.+attempt+branch+first_premise+left+left_or+positions+premise+right+right_and+right_impl+search+second_half+second_premise.Lts-right_impl as right-impl-lts
+use Rattle.prove.proofs.Generated.right_impl.Reads as right-impl
+use Rattle.prove.proofs.Generated.right_impl.Lts as right-impl-lts
 use Rattle.prove.proofs.+attempt+branch+first_premise+left+left_or+positions+premise+right+right_and+right_impl+search+second_half+second_premise.Proof.Claims.{right-impl-at, right-impl-claims}
 
 pub fresh-requires : (t : ℕ) → right-impl-lts.Need-fresh-requires (right-impl-claims t) (right-impl-at t) right-impl.Post

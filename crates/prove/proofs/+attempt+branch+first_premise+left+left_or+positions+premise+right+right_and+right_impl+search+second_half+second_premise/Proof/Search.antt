@@ -13,8 +13,8 @@ use Rattle.premises.proofs.Asking.{raised-at, raised-found, raised-failed}
 use Rattle.premises.proofs.Asking.{kind-back}
 use Rattle.premises.proofs.SearchWays.{first-stops, first-found, first-fails}
 use Rattle.premises.proofs.Less.{or-left-less}
-use Rattle.prove.proofs.search.Reads as search′
-use Rattle.prove.proofs.+attempt+branch+first_premise+left+left_or+positions+premise+right+right_and+right_impl+search+second_half+second_premise.Lts-search as search-lts
+use Rattle.prove.proofs.Generated.search.Reads as search′
+use Rattle.prove.proofs.Generated.search.Lts as search-lts
 use Rattle.prove.proofs.+attempt+branch+first_premise+left+left_or+positions+premise+right+right_and+right_impl+search+second_half+second_premise.Proof.Claims.{search-at, search-claims}
 
 pub kind-requires : (t : ℕ) → search-lts.Need-kind-requires (search-claims t) (search-at t) search′.Post

@@ -11,8 +11,8 @@ use Rattle.representation.proofs.Falls.{weigh-back}
 use Rattle.premises.proofs.Asking.{raised-at, raised-found, raised-failed}
 use Rattle.premises.proofs.SearchWays.{half-stops, half-found, half-fails}
 use Rattle.premises.proofs.Less.{or-right-less}
-use Rattle.prove.proofs.second_half.Reads as second-half
-use Rattle.prove.proofs.+attempt+branch+first_premise+left+left_or+positions+premise+right+right_and+right_impl+search+second_half+second_premise.Lts-second_half as second-half-lts
+use Rattle.prove.proofs.Generated.second_half.Reads as second-half
+use Rattle.prove.proofs.Generated.second_half.Lts as second-half-lts
 use Rattle.prove.proofs.+attempt+branch+first_premise+left+left_or+positions+premise+right+right_and+right_impl+search+second_half+second_premise.Proof.Claims.{second-half-at, second-half-claims}
 
 pub right-requires : (t : ℕ) → second-half-lts.Need-right-requires (second-half-claims t) (second-half-at t) second-half.Post

@@ -7,8 +7,8 @@ use Rattle.theory.specs.Names.{skipped}
 use Rattle.theory.specs.Meter as M
 use Rattle.premises.proofs.Asking.{prepared-at, made-for, asked-lacks, asked-by}
 use Rattle.premises.proofs.SearchWays.{second-less}
-use Rattle.prove.proofs.second_premise.Reads as second-premise
-use Rattle.prove.proofs.+attempt+branch+first_premise+left+left_or+positions+premise+right+right_and+right_impl+search+second_half+second_premise.Lts-second_premise as second-premise-lts
+use Rattle.prove.proofs.Generated.second_premise.Reads as second-premise
+use Rattle.prove.proofs.Generated.second_premise.Lts as second-premise-lts
 use Rattle.prove.proofs.+attempt+branch+first_premise+left+left_or+positions+premise+right+right_and+right_impl+search+second_half+second_premise.Proof.Claims.{second-premise-at, second-premise-claims}
 
 pub second-requires : (t : ℕ) → second-premise-lts.Need-second-requires (second-premise-claims t) (second-premise-at t)

@@ -1,4 +1,5 @@
 -- `records_are`: every record before `i` was seen to hold x twice. The measure is what is left of the work area. Assumes nothing.
+mod Tie
 use Prim.Native.Nat.{_-_}
 use mathlib.Core.Path.{sym, _∙_}
 use mathlib.Core.Bool.{false≢true}
@@ -8,7 +9,7 @@ use native.Mathlib.Omega.{arith}
 use lib.ListN.{length}
 use Rattle.rows.specs.Bytes.{Twice}
 use Rattle.rows.proofs.compare.records_are.Statement.{statement}
-use Rattle.rows.proofs.compare.records_are.Tie as tie
+use Rattle.rows.proofs.compare.records_are.Proof.Tie as tie
 
 abbrev Inv-loop : tie.InvT-loop
 Inv-loop w x i₀ i = Twice w i x

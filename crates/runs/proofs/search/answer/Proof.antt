@@ -1,7 +1,8 @@
 -- `answer`: no call changes a slice's length. Assumes nothing.
+mod Tie
 use borrow.Author.Needs.{needs}
 use Rattle.runs.proofs.search.answer.Statement.{statement}
-use Rattle.runs.proofs.search.answer.Tie as tie
+use Rattle.runs.proofs.search.answer.Proof.Tie as tie
 
 read-requires : tie.Need-read-requires
 read-requires c κs = search needs

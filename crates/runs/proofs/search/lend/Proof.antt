@@ -1,10 +1,11 @@
 -- `lend`: each part is no longer than its slice. Assumes nothing.
+mod Tie
 use mathlib.Core.Path.{sym}
 use native.Mathlib.Omega.{arith}
 use lib.Seq.{length-take-le}
 use borrow.Author.Needs.{needs}
 use Rattle.runs.proofs.search.lend.Statement.{statement}
-use Rattle.runs.proofs.search.lend.Tie as tie
+use Rattle.runs.proofs.search.lend.Proof.Tie as tie
 
 assumptions-requires : tie.Need-assumptions-requires
 assumptions-requires c κs = search needs

@@ -1,0 +1,34 @@
+-- `append` meets its contract: every need is found. Assumes nothing.
+mod Tie
+use borrow.Author.Needs.{needs}
+use Rattle.context.proofs.append.Statement.{statement}
+use Rattle.context.proofs.append.Proof.Tie as tie
+
+mul-at : tie.Need-mul-at
+mul-at c = search needs
+
+add-at : tie.Need-add-at
+add-at c = search needs
+
+put-requires : tie.Need-put-requires
+put-requires c = search needs
+
+add-t6 : tie.Need-add-t6
+add-t6 c = search needs
+
+same-length : tie.Need-same-length
+same-length c = search needs
+
+returns : tie.Need-returns
+returns c = search needs
+
+pub append-spec : {M : Type 1} → statement M
+append-spec =
+    tie.close
+    (tie.spec
+    mul-at
+    add-at
+    put-requires
+    add-t6
+    same-length
+    returns)

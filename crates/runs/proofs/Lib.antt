@@ -1,0 +1,2 @@
+-- What the proofs of `runs` stand on. Assumes nothing.
+pub mod Generated

@@ -1,0 +1,14 @@
+-- Made by tools/records.py from the sources; antt refuses it where it is stale. Assumes nothing.
+use borrow.Fn.Kinds
+use borrow.Kind.MutSlice
+use borrow.Table.Referent
+use mathlib.Core.List
+use mir.Syntax
+use mathlib.Core.List.{_∷_, []}
+
+abbrev pub ps : List.List (Kinds.PK 1)
+ps = (MutSlice.pMutS (Referent.rtF (Referent.fInt Syntax.w32)) 0 tt) ∷ (Kinds.pNum Syntax.w64) ∷ (Kinds.pNum Syntax.w64) ∷ (Kinds.pNum
+    Syntax.w64) ∷ []
+
+abbrev pub r : Kinds.RK 1
+r = Kinds.rUnit
