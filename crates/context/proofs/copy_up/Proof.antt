@@ -1,9 +1,12 @@
 -- `copy_up` meets its contract: two runs, the unordered records and the ordered ones. Assumes nothing.
 mod Tie
+use Prim.Native.Nat.{_+_, _-_, _*_}
+use mathlib.Core.Path.{ap, _∙_}
 use borrow.Author.Needs.{needs}
 use Rattle.context.proofs.copy_up.Statement.{statement}
 use Rattle.context.proofs.copy_up.Proof.Tie as tie
-use Rattle.context.specs.Area.{raised}
+use Rattle.context.specs.Area.{raised, copies}
+use Rattle.context.specs.Moves.{stretch}
 
 mul-first : tie.Need-mul-first
 mul-first c = search needs
@@ -25,7 +28,10 @@ same-length c = search needs
 
 returns : tie.Need-returns
 unfolding raised
-returns c = cc
+returns c =
+    let q = c .before .before .before .before .before .before .before .before .args .q in
+    c .before .copy-run2 .ensures ∙ ap (copies (q .ordered) (q .level * stretch + stretch - q .ordered))
+    (c .before .before .before .before .before .copy-run .ensures)
 
 pub copy-up-spec : {M : Type 1} → statement M
 copy-up-spec =
