@@ -63,7 +63,8 @@ class Crate:
         self.cycles = {f: p.name for p in (self.dir / 'proofs').glob('+*') for f in p.name.strip('+').split('+')}
         self.functions = [('/'.join(self.module(p)), f, params, text) for p, s in self.files.items() for f, params, text in functions(s)]
         self.carriers = [(m, f) for m, f, params, text in self.functions
-                         if re.search(r'\[Record[\];]', params + text.partition('{\n')[2]) or any('%s::%s(' % made in text for made in FILLED)]
+                         if re.search(r'\[Record[\];]', params + text.partition('{\n')[2])
+                         or any('%s::%s(' % made in text for made in FILLED)]
         self.main = pathlib.Path('main.rt') in self.files
 
     @staticmethod

@@ -1,6 +1,6 @@
 -- Records of the work area as lists of numbers, and the area after the code's moves. Assumes nothing.
 use Prim.Native.Nat.{ℕ, zero, suc, _+_, _-_, _*_, _%_}
-use mathlib.Core.List.{List, [], _∷_}
+use mathlib.Core.List.{List}
 use lib.ListN.{getD, set}
 use Rattle.context.specs.declared.Record.{Record}
 use Rattle.context.specs.declared.Sequent.{Sequent}

@@ -10,7 +10,8 @@ ghost use Rattle.context.specs.Area.{pushPlace, appendPlace, removed, to
 ghost use Rattle.context.specs.Moves.{stretch, stepped, spent, returned, upped, pushed, popped, appended, without, limitsOf};
 ghost use Rattle.context.specs.Moves.{numberOf};
 
-// A record of the two contexts: a formula's index and a term's.
+// A record of the two contexts: a formula's index and a term's, in this order for any language that lends them.
+#[repr(C)]
 pub struct Record {
     pub formula: u16,
     pub term: u16,

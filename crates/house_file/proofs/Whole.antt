@@ -6,7 +6,6 @@ use mathlib.Core.List.{List, append-nil}
 use native.Mathlib.Omega.{arith}
 use lib.ListN.{length, take, drop, replicate, length-replicate}
 use Rattle.theory.specs.Refusal.{BadFile, faultNumber}
-use Rattle.theory.specs.Call as C
 use Rattle.theory.specs.Call.{Claim, called}
 use Rattle.theory.specs.File as F
 use Rattle.theory.specs.File.{File, decoded, refusedLine, goalLines, allLines, printed}

@@ -3,7 +3,6 @@ use Prim.Native.Nat.{ℕ, _+_, _*_, _<_}
 use mathlib.Core.Path.{_≡_, refl, sym, ap, _∙_, subst}
 use mathlib.Core.List.{List}
 use native.Mathlib.Omega.{arith}
-use lib.ListN.{getD}
 use Rattle.theory.specs.Form.{kindOf, rightOf}
 use Rattle.theory.specs.Term.{case}
 use Rattle.theory.specs.Names.{fresh}

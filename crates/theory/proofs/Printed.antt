@@ -40,7 +40,7 @@ counted-length : (what : List ℕ) (n : ℕ) → length (counted what n) ≤ len
 unfolding counted
 counted-length what n = omega (arith, line-length (what ++ digits 7 n), length-append what (digits 7 n), digits-length 7 n)
 
-refused-length : (n : ℕ) → length (refusedLine n) ≤ 16
+pub refused-length : (n : ℕ) → length (refusedLine n) ≤ 16
 unfolding refusedLine bytes
 refused-length n = counted-length (bytes "refused ") n
 

@@ -3,7 +3,7 @@
 use Prim.Native.Nat.{ℕ, suc, _/_}
 use mathlib.Core.Bool.{Bool, true, false, _&&_}
 use mathlib.Core.Option.{Option, none, some}
-use mathlib.Core.List.{List, [], map}
+use mathlib.Core.List.{List, map}
 use lib.ListN.{length, take, replicate}
 use Rattle.theory.specs.Form.{Book, shape, word, badWord}
 use Rattle.theory.specs.NameText.{namesIn, badName, padded}

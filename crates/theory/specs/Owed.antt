@@ -3,7 +3,7 @@ use Prim.Native.Nat.{ℕ, _*_, _%_, _≤_, _<_}
 use mathlib.Core.Path.{_≡_}
 use mathlib.Core.Bool.{true, false}
 use mathlib.Core.Option.{none, some}
-use mathlib.Core.List.{List, []}
+use mathlib.Core.List.{[]}
 use lib.Dec.{T}
 use lib.ListN.{length, getD}
 use Rattle.theory.specs.Form.{Form, bot, imp, form, badWord, Good}

@@ -1,5 +1,5 @@
 -- `context::read` meets its contract: a walk of its MIR, by hand.
-use mathlib.Core.Path.{_≡_, refl, sym}
+use mathlib.Core.Path.{refl, sym}
 use native.Mathlib.Omega.{arith}
 use Prim.Native.Nat.{ℕ, _<_, _^_, _*_}
 use mathlib.Core.List.{List, [], _∷_}

@@ -3,8 +3,7 @@ mod Tie
 use borrow.Author.Needs.{needs}
 use Rattle.context.proofs.term_at.Statement.{statement}
 use Rattle.context.proofs.term_at.Proof.Tie as tie
-use mathlib.Core.Path.{_≡_, sym, ap, _∙_}
-use Prim.Native.Nat.{ℕ}
+use mathlib.Core.Path.{sym, ap, _∙_}
 use lib.ListN.{List·getD-eq-default}
 use Rattle.context.specs.Area.{Rec, none}
 

@@ -1,5 +1,5 @@
 -- `context::write` meets its contract: a walk of its MIR, by hand.
-use mathlib.Core.Path.{_≡_, refl, sym, ap, subst}
+use mathlib.Core.Path.{refl, sym, ap, subst}
 use native.Mathlib.Omega.{arith}
 use Prim.Native.Nat.{ℕ, _<_, _^_, _*_}
 use mathlib.Core.List.{List, [], _∷_}

@@ -1,7 +1,6 @@
 -- So many of the first i records fire. Assumes nothing.
 mod Tie
 use borrow.Author.Needs.{needs}
-use native.Mathlib.Omega.{arith}
 use mathlib.Core.Path.{_≡_}
 use Prim.Native.Nat.{_-_, _≤_}
 use Rattle.representation.specs.Leaves.{firingIn}

@@ -1,7 +1,6 @@
 -- What is left of the search for the leaf is the search from i on. Assumes nothing.
 mod Tie
 use borrow.Author.Needs.{needs}
-use native.Mathlib.Omega.{arith}
 use Prim.Native.Nat.{_-_}
 use Rattle.firing.proofs.Walk.{Looking, looking-starts, looking-found, looking-on, looking-ends}
 use Rattle.firing.proofs.find_leaf.Statement.{statement}

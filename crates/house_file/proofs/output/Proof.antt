@@ -3,17 +3,20 @@ use borrow.Author.Needs.{needs}
 use native.Mathlib.Omega.{arith}
 use Prim.Native.Nat.{ℕ, _≤_}
 use mathlib.Core.Path.{_≡_, sym, ap, ap₂, _∙_, subst}
-use mathlib.Core.List.{List}
 use lib.ListN.{length}
 use denote.Ref.{now}
 use Rattle.theory.specs.NameText.{padded}
-use Rattle.theory.specs.File.{printed}
-use Rattle.theory.proofs.CallClaims.{printed-length}
+use Rattle.theory.specs.File.{refusedLine, printed}
+use Rattle.theory.proofs.Printed.{refused-length}
 use Rattle.house_sections.specs.declared.Sections.{Sections}
 use Rattle.house_sections.specs.Held.{heldBy, Fits}
 use Rattle.house_file.proofs.Whole.{printed-bad, is-decoded}
 use Rattle.house_file.proofs.output.Statement.{statement}
 use Rattle.house_file.proofs.output.Tie as tie
+
+-- the line of a refusal is short, whatever its number
+refusal-fits : (n : ℕ) {room : ℕ} → 16 ≤ room → length (refusedLine n) ≤ room
+refusal-fits n h = omega (arith, refused-length n, h)
 
 test-file-requires : tie.Need-test-file-requires
 test-file-requires c κs = search needs
@@ -22,12 +25,7 @@ enum-told : tie.Need-enum-told
 enum-told c = search needs
 
 refused-requires : tie.Need-refused-requires
-refused-requires c κs =
-    let start = c .before .before .before .before .before in
-    let bs = now (start .args .file) in
-    let tested = c .before .before .before .test-file in
-    let bad = printed-bad bs (ap (λ (s : Sections). heldBy s bs) (sym (c .before .enum-told .given .1)) ∙ tested .ensures .0) in
-    (omega arith, subst (λ (xs : List ℕ). length xs ≤ length (now (start .args .out))) bad (omega (arith, printed-length bs)))
+refused-requires c κs = (omega arith, refusal-fits _ (omega arith))
 
 enum-known-formulas : tie.Need-enum-known-formulas
 enum-known-formulas c = search needs
