@@ -783,9 +783,9 @@ module _ (claims· : Claims) where
 
   abbrev s5 : Typed.Mo T6 → Typed.Mo T7
   s5 = Scalar.n-use T6 (Scalar.oAt 7 y0 (Row.valS (Row.sInt Syntax.w64))) 9 (Rows.sc-here (Row.sInt Syntax.w64)) (Row.sInt Syntax.w64
-      -- told apart: 66.
-      -- told apart: 67.
-      -- told apart: 68.
+      -- told apart: 59.
+      -- told apart: 60.
+      -- told apart: 61.
       .of)
 
   abbrev s6 : Typed.Mo T7 → Typed.Mo T8  -- told apart: 1.
@@ -902,7 +902,6 @@ module _ (claims· : Claims) where
   abbrev s42 : Typed.Mo T45 → Typed.Mo T46
   s42 = Scalar.n-room T45 8 y1
 
-  -- told apart: 65.
   abbrev s43 : Typed.Mo T46 → Typed.Mo T47
   s43 = Scalar.n-room T46 9 y0
 
@@ -1102,12 +1101,10 @@ module _ (claims· : Claims) where
         g13 = y9 ∷ y12 ∷ y14 ∷ (3, Reshare.mslice-owedS Element.row y15 2 3 (Row.lease (κs .1 .1 .0) (qs .1 .1 .0))) ∷ y33 ∷ y35 ∷ y36 ∷
             y19 ∷ y37 ∷ y38 ∷ y39 ∷ y44 ∷ y24 ∷ y25 ∷ y26 ∷ y27 ∷ []
 
-        -- told apart: 64.
         abbrev g16 : List.List Row.Entry
         g16 = y9 ∷ y12 ∷ (2, Relend.mslice-owed (Referent.rtF (Referent.fInt Syntax.w16)) y13 1 4 (Row.lease (κs .1 .0) (qs .1 .0))) ∷
             y16 ∷ y33 ∷ y35 ∷ y36 ∷ y19 ∷ y37 ∷ y38 ∷ y39 ∷ y44 ∷ y24 ∷ y25 ∷ y26 ∷ y46 ∷ []
 
-        -- told apart: 63.
         abbrev g17 : List.List Row.Entry
         g17 = y9 ∷ y12 ∷ (2, Relend.mslice-owed (Referent.rtF (Referent.fInt Syntax.w16)) y13 1 4 (Row.lease (κs .1 .0) (qs .1 .0))) ∷
             y16 ∷ y33 ∷ y35 ∷ y36 ∷ y19 ∷ y37 ∷ y38 ∷ y39 ∷ y44 ∷ y24 ∷ y25 ∷ y26 ∷ y27 ∷ []
@@ -1256,7 +1253,6 @@ module _ (claims· : Claims) where
         abbrev G32 : Row.Cx
         G32 = record { locals = List._++_ g19 t20; slots = life8 }
 
-        -- told apart: 62.
         abbrev G33 : Row.Cx
         G33 = record { locals = List._++_ g19 t21; slots = life8 }
 
@@ -1300,7 +1296,6 @@ module _ (claims· : Claims) where
         abbrev G41 : Row.Cx
         G41 = record { locals = List._++_ t8 t1; slots = life13 }
 
-        -- told apart: 61.
         abbrev G42 : Row.Cx
         G42 = record { locals = List._++_ t8 t1; slots = life0 }
 
@@ -1619,7 +1614,7 @@ module _ (claims· : Claims) where
           d34 : Typed.Typed 𝓤 H A 𝓣 E G49 b35 Δ0 at34
           d34 = Typed.t-return 𝓤 H A W 𝓣 E Δ0 tt
 
-          -- told apart: 60.
+          -- told apart: 58.
 
           d35 : Typed.Typed 𝓤 H A 𝓣 E G48 b35 Δ0 at35
           d35 = Typed.g-pre 𝓤 H A W 𝓣 E G48 G49 b35 Δ0 (Typed.pass T48 T49 s45) at34 (Scalar.g-room 𝓤 H A W E G48 7 y0 (Scalar.room-sc 𝓤
@@ -1636,6 +1631,8 @@ module _ (claims· : Claims) where
           d38 : Typed.Typed 𝓤 H A 𝓣 E G45 b35 Δ0 at38
           d38 = Typed.g-pre 𝓤 H A W 𝓣 E G45 G46 b35 Δ0 (Typed.pass T45 T46 s42) at37 (Scalar.g-room 𝓤 H A W E G45 8 y1 (Local.room-whole
               𝓤 H A W (Declared.row Sequent.the-type) y1 Path'.refl)) d37
+
+          -- told apart: 57.
 
           d39 : Typed.Typed 𝓤 H A 𝓣 E G9 b36 Δ0 at39
           d39 = Typed.s-seq 𝓤 H A W 𝓣 E G9 G45 b34 b35 Δ0 (Typed.pass T9 T45 s41) at38 (LocalCopy.t-val-copy 𝓤 H A W E 𝓣 (λ ρ. Unit) G9
@@ -1658,10 +1655,10 @@ module _ (claims· : Claims) where
               (Reads.reads-field 𝓤 H A W Sequent.the-type Laws'.the-laws 1 y0 8 Path'.refl, Path'.refl) (Reads'.room-gone 𝓤 H A y0)
               (Scalar.holds-sc 𝓤 H A W (Row.sInt Syntax.w64)) Path'.refl (λ u. Path'.refl) λ u. tt) d40
 
+          -- told apart: 53.
+          -- told apart: 54.
+          -- told apart: 55.
           -- told apart: 56.
-          -- told apart: 57.
-          -- told apart: 58.
-          -- told apart: 59.
 
           d42 : Typed.Typed 𝓤 H A 𝓣 E G6 b39 Δ0 at42
           d42 = Typed.s-seq 𝓤 H A W 𝓣 E G6 G7 b1 b38 Δ0 (Typed.pass T6 T7 s5) at41 (Scalar.t-use 𝓤 H A W E 𝓣 G6 (Scalar.oAt 7 y0
@@ -1829,10 +1826,10 @@ module _ (claims· : Claims) where
           .given))) → Typed.Mo T8
       m7 = λ before given. s6 (m6 before given)
 
+      -- told apart: 49.
+      -- told apart: 50.
+      -- told apart: 51.
       -- told apart: 52.
-      -- told apart: 53.
-      -- told apart: 54.
-      -- told apart: 55.
       abbrev W1 : (before : After-shared-slice-known) → (given : s1 .gives (m1 (before .before) (before .shared-slice-known .given))) →
           Typed.Want O1
       W1 = λ before given. Typed.wantNext T9 O0 (at39 (W0 (before .before .κs) (before .before .args))) (W0 (before .before .κs) (before
@@ -1878,12 +1875,11 @@ module _ (claims· : Claims) where
             ptr = Row.get 2 (T10 .locals) (m8 (before .before) (before
                 .slice-known .given)) .ptr;  -- told apart: 6.
             name = Row.get 2 (T10 .locals) (m8 (before .before) (before .slice-known .given)) .name;
-            -- told apart: 51.
+            -- told apart: 48.
             now = t;
           }  -- told apart: 7.
           (T10 .locals) (m8 (before .before) (before .slice-known .given))))))
 
-      -- told apart: 50.
       abbrev W3 : (before : After-slice-known) → (t : List.List (Referent.rtF (Referent.fInt Syntax.w16) .Denot)) → (w : List.List
           (Element.row .Denot)) → (p : Rows.whole (Declared.row Sequent.the-type) .Mod) → (n : Rows.sc-here (Row.sInt Syntax.w64) .Mod)
           → (i : Rows.sc-here (Row.sInt Syntax.w64) .Mod) → Typed.Want O3
@@ -1894,7 +1890,6 @@ module _ (claims· : Claims) where
           u) (Row.get 9 (T10 .locals) u) (Row.get 10 (T10 .locals) u) (vs .0) (vs .1) (vs .2) (vs .3) (vs .4)) at30 (m8 (before .before)
           (before .slice-known .given)) (t, w, p, n, i)) (W2 (before .before) (before .slice-known .given))
 
-      -- told apart: 49.
       abbrev pub m10 : (before : After-slice-known) → (t : List.List (Referent.rtF (Referent.fInt Syntax.w16) .Denot)) → (w : List.List
           (Element.row .Denot)) → (p : Rows.whole (Declared.row Sequent.the-type) .Mod) → (n : Rows.sc-here (Row.sInt Syntax.w64) .Mod)
           → (i : Rows.sc-here (Row.sInt Syntax.w64) .Mod) → Typed.Mo T11
@@ -2167,8 +2162,8 @@ module _ (claims· : Claims) where
           .before .before .before .before .before .before .before .before .slice-known .given)) .now) (Row.get 7 (T10 .locals) (m8 (c
           .before .before .before .before .before .before .before .before .before .before .before .before .before) (c .before .before
           .before .before .before .before .before .before .before .before .before .before .slice-known .given))) (Row.get 8 (T10
+          -- told apart: 46.
           -- told apart: 47.
-          -- told apart: 48.
           .locals) (m8 (c .before .before .before .before .before .before .before .before .before .before .before .before .before) (c
           .before .before .before .before .before .before .before .before .before .before .before .before .slice-known .given)))
           (Row.get 9 (T10 .locals) (m8 (c .before .before .before .before .before .before .before .before .before .before .before
@@ -2185,10 +2180,10 @@ module _ (claims· : Claims) where
           (Row.get 3 (T10 .locals) (m8 (c .before .before .before .before .before .before .before .before .before .before .before
           .before .before) (c .before .before .before .before .before .before .before .before .before .before .before .before  -- told apart: 11.
           .slice-known .given)) .now) (Row.get 7 (T10 .locals) (m8 (c .before .before .before .before .before .before .before .before
+          -- told apart: 42.
           -- told apart: 43.
           -- told apart: 44.
           -- told apart: 45.
-          -- told apart: 46.
           .before .before .before .before .before) (c .before .before .before .before .before .before .before .before .before .before
           .before .before .slice-known .given))) (Row.get 8 (T10 .locals) (m8 (c .before .before .before .before .before .before .before
           .before .before .before .before .before .before) (c .before .before .before .before .before .before .before .before .before  -- told apart: 12.
@@ -2214,8 +2209,8 @@ module _ (claims· : Claims) where
           .before .before .before .before .before .before .before .before .before .slice-known .given))) (Row.get 8 (T10 .locals) (m8 (c
           .before .before .before .before .before .before .before .before .before .before .before .before .before) (c .before .before
           .before .before .before .before .before .before .before .before .before .before .slice-known .given))) (Row.get 9 (T10
+          -- told apart: 40.
           -- told apart: 41.
-          -- told apart: 42.
           .locals) (m8 (c .before .before .before .before .before .before .before .before .before .before .before .before .before) (c
           .before .before .before .before .before .before .before .before .before .before .before .before .slice-known .given)))
           (Row.get 10 (T10 .locals) (m8 (c .before .before .before .before .before .before .before .before .before .before .before
@@ -2242,10 +2237,10 @@ module _ (claims· : Claims) where
       abbrev pub Need-loop-less-2 : Type 0
       Need-loop-less-2 = (c : Else1) → Nat._<_ (μ·0 (Row.get 1 (T10 .locals) (m8 (c .before .before .before .before .before .before
           .before) (c .before .before .before .before .before .before .slice-known .given)) .now) (Row.get 2 (T10 .locals) (m8 (c
+          -- told apart: 36.
           -- told apart: 37.
           -- told apart: 38.
           -- told apart: 39.
-          -- told apart: 40.
           .before .before .before .before .before .before .before) (c .before .before .before .before .before .before .slice-known
           .given)) .now) (Row.get 3 (T10 .locals) (m8 (c .before .before .before .before .before .before .before) (c .before .before
           .before .before .before .before .slice-known .given)) .now) (Row.get 7 (T10 .locals) (m8 (c .before .before .before .before
@@ -2269,8 +2264,8 @@ module _ (claims· : Claims) where
           .w) (c .before .before .before .before .before .loop .p) (c .before .before .before .before .before .loop .n) (c .before
           .before .before .before .before .loop .i))
 
+      -- told apart: 34.
       -- told apart: 35.
-      -- told apart: 36.
 
       abbrev pub Need-loop-again-2 : Type 0
       Need-loop-again-2 = (c : Else1) → Inv·0 (Row.get 1 (T10 .locals) (m8 (c .before .before .before .before .before .before .before)
@@ -2286,7 +2281,6 @@ module _ (claims· : Claims) where
           .now) (Row.get 3 (T10 .locals) (m33 (c .before)) .now) (Row.get 8 (T10 .locals) (m33 (c .before))) (Row.get 9 (T10 .locals)
           (m33 (c .before))) (Row.get 10 (T10 .locals) (m33 (c .before)))
 
-      -- told apart: 34.
       abbrev pub m34 : (before : At-loop) → Typed.Mo T45
       m34 = λ before. s41 (m12 before)
 

@@ -518,7 +518,6 @@ b19 = Syntax.call "claim::assume" ((Syntax.copy (Syntax.place 18 [])) ∷ (Synta
 abbrev b20 : Syntax.Body
 b20 = Syntax.assign (Syntax.place 21 []) (Syntax.addrOf (Syntax.place 1 ((Syntax.field 0) ∷ (Syntax.deref y9) ∷ [])))
 
--- told apart: 37.
 abbrev b21 : Syntax.Body
 b21 = Syntax.assign (Syntax.place 22 []) (Syntax.aggregate ((Syntax.copy (Syntax.place 21 [])) ∷ (Syntax.copy (Syntax.place 1
     ((Syntax.field 1) ∷ []))) ∷ []))
@@ -533,12 +532,10 @@ b23 = Syntax.assign (Syntax.place 24 []) (Syntax.aggregate ((Syntax.copy (Syntax
 abbrev b24 : Syntax.Body
 b24 = Syntax.assign (Syntax.place 25 []) (Syntax.addrOf (Syntax.place 3 ((Syntax.field 0) ∷ (Syntax.deref Element.spelled) ∷ [])))
 
--- told apart: 36.
 abbrev b25 : Syntax.Body
 b25 = Syntax.assign (Syntax.place 26 []) (Syntax.aggregate ((Syntax.copy (Syntax.place 25 [])) ∷ (Syntax.copy (Syntax.place 3
     ((Syntax.field 1) ∷ []))) ∷ []))
 
--- told apart: 35.
 abbrev b26 : Syntax.Body
 b26 = Syntax.call "prove::right" ((Syntax.copy (Syntax.place 22 [])) ∷ (Syntax.copy (Syntax.place 24 [])) ∷ (Syntax.copy (Syntax.place
     26 [])) ∷ (Syntax.copy (Syntax.place 4 [])) ∷ (Syntax.copy (Syntax.place 9 [])) ∷ (Syntax.copy (Syntax.place 11 [])) ∷ (Syntax.copy
@@ -604,11 +601,9 @@ b45 = Syntax.seq b3 b44
 abbrev b46 : Syntax.Body
 b46 = Syntax.seq b2 b45
 
--- told apart: 34.
 abbrev b47 : Syntax.Body
 b47 = Syntax.seq b1 b46
 
--- told apart: 33.
 abbrev b48 : Syntax.Body
 b48 = Syntax.seq b0 b47
 
@@ -767,7 +762,6 @@ t47 = y34 ∷ y35 ∷ y36 ∷ y37 ∷ y38 ∷ y39 ∷ y40 ∷ y41 ∷ y65 ∷ y4
 abbrev pub t48 : List.List Row.Entry
 t48 = y45 ∷ y15 ∷ y17 ∷ y63 ∷ y21 ∷ y23 ∷ y24 ∷ y25 ∷ y26 ∷ y27 ∷ y28 ∷ y29 ∷ y30 ∷ y31 ∷ y32 ∷ y33 ∷ []
 
--- told apart: 32.
 abbrev pub t49 : List.List Row.Entry
 t49 = y34 ∷ y35 ∷ y36 ∷ y37 ∷ y38 ∷ y39 ∷ y40 ∷ y41 ∷ y42 ∷ y43 ∷ y66 ∷ []
 
@@ -858,7 +852,6 @@ T27 = record { locals = List._++_ t9 t1; slots = [] }
 abbrev pub T28 : Row.Cx
 T28 = record { locals = List._++_ t8 t1; slots = [] }
 
--- told apart: 31.
 abbrev pub T29 : Row.Cx
 T29 = record { locals = List._++_ t18 t1; slots = [] }
 
@@ -874,7 +867,6 @@ T33 = record { locals = List._++_ t20 t22; slots = [] }
 abbrev pub T35 : Row.Cx
 T35 = record { locals = List._++_ t23 t24; slots = [] }
 
--- told apart: 30.
 abbrev pub T36 : Row.Cx
 T36 = record { locals = List._++_ t23 t25; slots = [] }
 
@@ -917,7 +909,6 @@ T55 = record { locals = List._++_ t41 t42; slots = [] }
 abbrev pub T56 : Row.Cx
 T56 = record { locals = List._++_ t43 t42; slots = [] }
 
--- told apart: 29.
 abbrev pub T57 : Row.Cx
 T57 = record { locals = List._++_ t44 t42; slots = [] }
 
@@ -942,11 +933,9 @@ T68 = record { locals = List._++_ t15 t1; slots = [] }
 abbrev pub T70 : Row.Cx
 T70 = record { locals = List._++_ t16 t1; slots = [] }
 
--- told apart: 28.
 abbrev pub T71 : Row.Cx
 T71 = record { locals = List._++_ t17 t1; slots = [] }
 
--- told apart: 27.
 abbrev pub T72 : Row.Cx
 T72 = record { locals = List._++_ t2 t1; slots = [] }
 
@@ -1050,11 +1039,9 @@ module _ (claims· : Claims) where
   abbrev s27 : Typed.Mo T29 → Typed.Mo T30
   s27 = Scalar.n-room T29 15 y0
 
-  -- told apart: 26.
   abbrev s29 : Typed.Gives T30 T32
   s29 = Relend.k-sl-relend (Referent.rtF (Referent.fInt Syntax.w16)) T30 2 17 1 5 y16 y5 Row.off λ x. x
 
-  -- told apart: 25.
   abbrev s30 : Typed.Asks T32 T33
   s30 = Relend.k-sl-aggregate (Referent.rtF (Referent.fInt Syntax.w16)) (Relend.asMut (Referent.rtF (Referent.fInt Syntax.w16))) T32 17
       18 5 y5 y5 (λ x. x) (Scalar.oFld 2 ((Syntax.field 1) ∷ []) y0 8 λ v. Shared.lenV (v .0))
@@ -1162,11 +1149,9 @@ module _ (claims· : Claims) where
   abbrev s67 : Typed.Mo T68 → Typed.Mo T70
   s67 = Scalar.n-room T68 6 y0
 
-  -- told apart: 24.
   abbrev s68 : Typed.Mo T70 → Typed.Mo T71
   s68 = Scalar.n-room T70 7 y0
 
-  -- told apart: 23.
   abbrev s69 : Typed.Mo T71 → Typed.Mo T72
   s69 = Scalar.n-room T71 8 y0
 
@@ -1399,11 +1384,9 @@ module _ (claims· : Claims) where
       abbrev at72 : Typed.TF T3 O0
       at72 = λ Ψ. Typed.give s2 (at71 Ψ)
 
-      -- told apart: 22.
       abbrev at73 : Typed.TF T2 O0
       at73 = λ Ψ. Typed.give s1 (at72 Ψ)
 
-      -- told apart: 21.
       abbrev at74 : Typed.TF T0 O0
       at74 = λ Ψ. Typed.give s0 (at73 Ψ)
 
@@ -1484,7 +1467,6 @@ module _ (claims· : Claims) where
             (3, Relend.mslice-owed Element.row y18 2 9 (Row.lease (κs .1 .1 .0) (qs .1 .1 .0))) ∷ y21 ∷ y23 ∷ y24 ∷ y25 ∷ y26 ∷ y27 ∷
             y28 ∷ y29 ∷ y30 ∷ y31 ∷ y32 ∷ y33 ∷ []
 
-        -- told apart: 20.
         abbrev g48 : List.List Row.Entry
         g48 = y45 ∷ y15 ∷ y17 ∷ (3, Relend.mslice-owed Element.row y18 2 9 (Row.lease (κs .1 .1 .0) (qs .1 .1 .0))) ∷ y21 ∷ y23 ∷ y24 ∷
             y25 ∷ y26 ∷ y27 ∷ y28 ∷ y29 ∷ y30 ∷ y31 ∷ y32 ∷ y33 ∷ []
@@ -1581,11 +1563,9 @@ module _ (claims· : Claims) where
         abbrev G28 : Row.Cx
         G28 = record { locals = List._++_ t8 t1; slots = life0 }
 
-        -- told apart: 19.
         abbrev G29 : Row.Cx
         G29 = record { locals = List._++_ t18 t1; slots = life0 }
 
-        -- told apart: 18.
         abbrev G30 : Row.Cx
         G30 = record { locals = List._++_ t19 t1; slots = life0 }
 
@@ -1621,11 +1601,9 @@ module _ (claims· : Claims) where
         abbrev G35 : Row.Cx
         G35 = record { locals = List._++_ g23 t24; slots = life4 }
 
-        -- told apart: 17.
         abbrev G36 : Row.Cx
         G36 = record { locals = List._++_ g23 t25; slots = life4 }
 
-        -- told apart: 16.
         abbrev G37 : Row.Cx
         G37 = record { locals = List._++_ g26 t27; slots = life4 }
 
@@ -1733,11 +1711,9 @@ module _ (claims· : Claims) where
         abbrev G56 : Row.Cx
         G56 = record { locals = List._++_ g43 t42; slots = life15 }
 
-        -- told apart: 15.
         abbrev G57 : Row.Cx
         G57 = record { locals = List._++_ g44 t42; slots = life15 }
 
-        -- told apart: 14.
         abbrev G58 : Row.Cx
         G58 = record { locals = List._++_ g45 t42; slots = life15 }
 
@@ -1810,11 +1786,9 @@ module _ (claims· : Claims) where
         abbrev G70 : Row.Cx
         G70 = record { locals = List._++_ t16 t1; slots = life0 }
 
-        -- told apart: 13.
         abbrev G71 : Row.Cx
         G71 = record { locals = List._++_ t17 t1; slots = life0 }
 
-        -- told apart: 12.
         abbrev G72 : Row.Cx
         G72 = record { locals = List._++_ t2 t1; slots = life0 }
 
@@ -2390,11 +2364,9 @@ module _ (claims· : Claims) where
               (Shared.reads-sslice-len 𝓤 H A W (Referent.rtF (Referent.fInt Syntax.w16)) y22 4 8 Path'.refl, Path'.refl)  -- told apart: 1.
               (Reads'.room-gone 𝓤 H A y0) (Scalar.holds-sc 𝓤 H A W (Row.sInt Syntax.w64)) Path'.refl (λ u. Path'.refl) λ u. tt) d58
 
-          -- told apart: 11.
           d60 : Typed.Typed 𝓤 H A 𝓣 E G15 b42 Δ0 at60
           d60 = Typed.t-seq 𝓤 H A W 𝓣 E G15 G16 b12 b41 Δ0 at13 at59 d13 d59
 
-          -- told apart: 10.
           d61 : Typed.Typed 𝓤 H A 𝓣 E G14 b43 Δ0 at61
           d61 = Typed.s-seq 𝓤 H A W 𝓣 E G14 G15 b5 b42 Δ0 (Typed.ask s13) at60 (Scalar.t-op2 𝓤 H A W E 𝓣 G14 (Syntax.lt Syntax.unsigned)
               (Scalar.oFld 9 ((Syntax.field 2) ∷ []) y0 16 (Reads.fieldV Limits.the-type Laws'.the-laws 2)) (Scalar.oAt 13 y0 (Row.valS
@@ -2707,11 +2679,9 @@ module _ (claims· : Claims) where
       abbrev pub m28 : (before : After-struct-known) → Typed.Mo T30
       m28 = λ before. s27 (m27 before)
 
-      -- told apart: 9.
       abbrev pub m29 : (before : Else1) → (given : s29 .gives (m28 (before .before))) → Typed.Mo T32
       m29 = λ before given. s29 .next (m28 (before .before)) given
 
-      -- told apart: 8.
       abbrev pub m30 : (before : Else1) → (given : s29 .gives (m28 (before .before))) → Typed.Mo T33
       m30 = λ before given. s30 .next (m29 before given)
 
@@ -2843,12 +2813,10 @@ module _ (claims· : Claims) where
           T52
       m41 = λ before given. s49 .next (m40 (before .before) (before .right-arg2 .given)) given
 
-      -- told apart: 7.
       abbrev pub m42 : (before : After-right-arg2) → (given : s49 .gives (m40 (before .before) (before .right-arg2 .given))) → Typed.Mo
           T53
       m42 = λ before given. s50 .next (m41 before given)
 
-      -- told apart: 6.
       abbrev pub m43 : (before : After-right-arg2) → (given : s49 .gives (m40 (before .before) (before .right-arg2 .given))) → Typed.Mo
           T54
       m43 = λ before given. s51 (m42 before given)
@@ -2929,12 +2897,10 @@ module _ (claims· : Claims) where
           T57
       m46 = λ before given. s54 (m45 before given)
 
-      -- told apart: 5.
       abbrev pub m47 : (before : After-right-arg3) → (given : s52 .gives (m43 (before .before) (before .right-arg3 .given))) → Typed.Mo
           T58
       m47 = λ before given. s55 (m46 before given)
 
-      -- told apart: 4.
       abbrev pub m48 : (before : After-right) → (given : s57 .gives (m47 (before .before) (After-right·gave before))) → Typed.Mo T60
       m48 = λ before given. s57 .next (m47 (before .before) (After-right·gave before)) given
 
@@ -2992,12 +2958,10 @@ module _ (claims· : Claims) where
           Typed.Mo T71
       m54 = λ before given. s68 (m53 before given)
 
-      -- told apart: 3.
       abbrev pub m55 : (before : After-slice-known5) → (given : s65 .gives (m51 (before .before) (before .slice-known5 .given))) →
           Typed.Mo T72
       m55 = λ before given. s69 (m54 before given)
 
-      -- told apart: 2.
       module _ (before· : After-slice-known5) where
         pub record After-w2·own : Type 0 where
           pub given : s65 .gives (m51 (before· .before) (before· .slice-known5 .given))
