@@ -4,7 +4,7 @@ mod show;
 
 use rows::field;
 
-const MOST_BYTES: usize = 131072;
+const MOST_BYTES: usize = 262144;
 
 // Where a row's book stands, behind its numbers and its name.
 fn behind(list: &[u8], row: usize) -> usize {

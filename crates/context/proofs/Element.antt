@@ -1,5 +1,7 @@
 -- The element of the work area as the generated text names it: its row, its MIR type behind a reference and spelled out, and as the
--- element of a local array. Assumes nothing.
+-- element of a local array; and that an index within a slice of it is no address too far. Assumes nothing.
+use Prim.Native.Nat.{ℕ, _<_, _^_, _*_}
+use native.Mathlib.Omega.{arith}
 use denote.RattleType.{RattleType}
 use denote.Memory.{pointee}
 use mir.Syntax.{Ty}
@@ -25,3 +27,7 @@ elem-laws = Array.eStruct-laws T.the-type L.the-laws L.the-copy L.the-plain
 
 abbrev pub copies : Copies.Cp row
 copies = Copies.cStruct T.the-type L.the-laws L.the-copy
+
+-- an index within a slice, times an element's size, fits a usize
+pub small-of : (n i : ℕ) → n * 4 < 2 ^ 63 → i < n → i * 4 < 2 ^ 64
+small-of n i big l = omega (arith, big, l)

@@ -35,7 +35,8 @@ loop-again c =
     let at = c .before .before .before .before in
     let w₀ = now (at .before .args .w) in
     let more = clearing-goes zeroed w₀ 0 (at .loop .inv .1) (omega arith) in
-    (omega (arith, at .loop .inv .1 .long), subst (λ (v : List Rec). Clearing zeroed w₀ 0 (at .loop .i + 1) v) (sym (c .before .write .ensures)) more)
+    let written = subst (λ (v : List Rec). Clearing zeroed w₀ 0 (at .loop .i + 1) v) (sym (c .before .write .ensures)) more in
+    (omega (arith, at .loop .inv .1 .long), written)
 
 same-length : tie.Need-same-length Inv-loop μ-loop
 same-length c = c .before .loop .inv .1 .long
