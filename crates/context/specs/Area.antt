@@ -1,4 +1,4 @@
--- Records of the work area as lists of numbers, and the area after the code's moves. Assumes nothing.
+-- Records of the work area, and the area after the code's moves. Assumes nothing.
 use Prim.Native.Nat.{ℕ, zero, suc, _+_, _-_, _*_, _%_}
 use mathlib.Core.List.{List}
 use lib.ListN.{getD, set}
@@ -6,22 +6,23 @@ use Rattle.context.specs.declared.Record.{Record}
 use Rattle.context.specs.declared.Sequent.{Sequent}
 use Rattle.context.specs.Moves.{stretch}
 
--- a record; a read out of range gives two zeros
 abbrev pub Rec : Type 0
 Rec = Record
 
 abbrev pub recordOf : ℕ → ℕ → Rec
 recordOf a x = record { formula = a; term = x }
 
-abbrev pub none : Rec
-none = recordOf 0 0
-
-abbrev pub rec : ℕ → ℕ → Rec
-rec a x = recordOf (a % 65536) (x % 65536)
-
 -- a record of two zeros
 abbrev pub zeroed : Rec
 zeroed = recordOf 0 0
+
+-- what a read out of range gives
+abbrev pub none : Rec
+none = zeroed
+
+-- two numbers as a record holds them, in 16 bits each
+abbrev pub rec : ℕ → ℕ → Rec
+rec a x = recordOf (a % 65536) (x % 65536)
 
 abbrev pub formulaAt : List Rec → ℕ → ℕ
 formulaAt w i = getD w i none .formula
