@@ -3,7 +3,7 @@ use Prim.Native.Nat.{ℕ, zero, suc, _+_, _-_, _*_, _%_}
 use mathlib.Core.List.{List}
 use lib.ListN.{getD, set}
 use Rattle.context.specs.declared.Record.{Record}
-use Rattle.context.specs.declared.Sequent.{Sequent}
+use Rattle.meter.specs.declared.Sequent.{Sequent}
 use Rattle.context.specs.Moves.{stretch}
 
 abbrev pub Rec : Type 0
@@ -12,33 +12,29 @@ Rec = Record
 abbrev pub recordOf : ℕ → ℕ → Rec
 recordOf a x = record { formula = a; term = x }
 
--- a record of two zeros
+-- a record of two zeros, which is also what a read out of range gives
 abbrev pub zeroed : Rec
 zeroed = recordOf 0 0
-
--- what a read out of range gives
-abbrev pub none : Rec
-none = zeroed
 
 -- two numbers as a record holds them, in 16 bits each
 abbrev pub rec : ℕ → ℕ → Rec
 rec a x = recordOf (a % 65536) (x % 65536)
 
 abbrev pub formulaAt : List Rec → ℕ → ℕ
-formulaAt w i = getD w i none .formula
+formulaAt w i = getD w i zeroed .formula
 
 abbrev pub termAt : List Rec → ℕ → ℕ
-termAt w i = getD w i none .term
+termAt w i = getD w i zeroed .term
 
 -- n records from i on, copied a level up
 unfoldable pub copies : ℕ → ℕ → List Rec → List Rec
 copies zero i w = w
-copies (suc n) i w = copies n (i + 1) (set w (i + stretch) (getD w i none))
+copies (suc n) i w = copies n (i + 1) (set w (i + stretch) (getD w i zeroed))
 
 -- the n records after place i, each one place down
 unfoldable pub shifts : ℕ → ℕ → List Rec → List Rec
 shifts zero i w = w
-shifts (suc n) i w = shifts n (i + 1) (set w i (getD w (i + 1) none))
+shifts (suc n) i w = shifts n (i + 1) (set w i (getD w (i + 1) zeroed))
 
 -- the records in use, copied a level up
 unfoldable pub raised : List Rec → Sequent → List Rec

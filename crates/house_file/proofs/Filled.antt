@@ -7,7 +7,7 @@ use lib.ListN.{length, take, drop, replicate, length-append}
 use lib.Seq.{take-append-seam}
 use Rattle.theory.specs.NameText.{padded}
 use Rattle.theory.specs.File as F
-use Rattle.claim.specs.Lent as L
+use Rattle.call.specs.Lent as L
 use Rattle.house_sections.specs.Held.{numbersFrom, indicesFrom, laidOver, entryBytes, fileIn}
 
 -- as many words and indices as were asked for

@@ -22,7 +22,7 @@ use Rattle.theory.specs.File.{refusedLine, provedWith, provedLines, answerLines
 use Rattle.theory.specs.NameText.{namesIn, padded}
 use Rattle.theory.specs.Owed.{FitIn}
 use Rattle.theory.proofs.CallClaims.{written-front}
-use Rattle.claim.specs.Outcomes.{outcomeOf}
+use Rattle.call.specs.Outcomes.{outcomeOf}
 use Rattle.identifier_generator.specs.Handed.{Hands}
 use Rattle.house_lines.specs.Lines.{Printable}
 use Rattle.house_file.specs.Output.{linesFor, Printables}

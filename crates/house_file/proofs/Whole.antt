@@ -11,9 +11,9 @@ use Rattle.theory.specs.File as F
 use Rattle.theory.specs.File.{File, decoded, refusedLine, goalLines, allLines, printed}
 use Rattle.theory.proofs.CallClaims.{numbers-fit, printed-length}
 use Rattle.theory.proofs.Fitted.{padded-length}
-use Rattle.claim.specs.declared.Outcome.{Outcome}
-use Rattle.claim.specs.Outcomes.{outcomeOf}
-use Rattle.claim.specs.Lent.{claimOf}
+use Rattle.call.specs.declared.Outcome.{Outcome}
+use Rattle.call.specs.Outcomes.{outcomeOf}
+use Rattle.call.specs.Lent.{claimOf}
 use Rattle.house_sections.specs.Held.{numbersFrom, indicesFrom, textFrom, laidOver, fileIn, heldBy, Seen}
 use Rattle.house_sections.specs.declared.Sections.the-variants.{BadFile as Bad, Held}
 use Rattle.house_file.specs.Output.{Answers, linesFor, Printables}

@@ -6,10 +6,10 @@ use lib.ListN.{replicate}
 use Rattle.theory.specs.Call.{Claim, called}
 use Rattle.theory.specs.Writer.{written}
 use Rattle.theory.specs.File.{refusedLine, unprovableLines, provedLines}
-use Rattle.claim.specs.declared.Outcome.{Outcome}
-use Rattle.claim.specs.declared.Outcome.the-variants.{Proved, Unprovable, Short, Refused}
-use Rattle.claim.specs.Outcomes.{outcomeOf}
-use Rattle.house_text.specs.Tested.{draft}
+use Rattle.call.specs.declared.Outcome.{Outcome}
+use Rattle.call.specs.declared.Outcome.the-variants.{Proved, Unprovable, Short, Refused}
+use Rattle.call.specs.Outcomes.{outcomeOf}
+use Rattle.house_text.specs.Drafted.{draft}
 use Rattle.house_lines.specs.Lines.{Printable}
 
 -- o is the outcome of the claim x, and f and t are its words and term numbers afterwards

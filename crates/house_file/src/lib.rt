@@ -6,71 +6,93 @@ ghost use lib.ListN.{length, replicate};
 ghost use Rattle.theory.specs.NameText.{padded};
 ghost use Rattle.theory.specs.Writer.{written};
 ghost use Rattle.theory.specs.File.{decoded, provedLines, goalLines, printed};
-ghost use Rattle.claim.specs.Lent.{claimOf};
-ghost use Rattle.house_text.specs.Tested.{draft};
+ghost use Rattle.call.specs.Lent.{claimOf};
+ghost use Rattle.house_text.specs.Drafted.{draft};
 ghost use Rattle.house_lines.specs.Lines.{Printable};
 ghost use Rattle.house_sections.specs.Held.{fileIn, Seen};
 ghost use Rattle.house_file.specs.Output.{Answers, linesFor, Printables};
-use claim::Outcome;
+use call::Outcome;
 use house_sections::Sections;
 
+// "The program lends 4,096 words, 4,096 nodes, 1,000,000 steps, 32,768 text bytes".
+const WORDS: usize = 4096;
+
+const NODES: usize = 4096;
+
+const STEPS: usize = 1000000;
+
+const TEXT_BYTES: usize = 32768;
+
+// Assumptions of a house file, and bytes that hold all names of one.
+const ASSUMPTIONS: usize = 64;
+
+const NAME_BYTES: usize = 32768;
+
+// Bytes that hold the lines of every answer: those of a proved goal with the longest text are the most.
+pub const OUTPUT_BYTES: usize = 32835;
+
+// The number of document 01's table for a file that is no house file.
+const BAD_FILE: usize = 14;
+
 // The search with the program's work area and step limit.
-fn search(
-    f: &mut [u32],
+fn search_claim(
+    words: &mut [u32],
     count: usize,
     assumed: &[u16],
     names: &[u8],
     goal: usize,
-    t: &mut [u16],
+    terms: &mut [u16],
 ) -> Outcome
     ensures { λ r.
-        ⌜ Answers (claimOf (now (f .entry)) count (now (assumed .entry)) (now (names .entry)) goal (now (t .entry)) 16384 1000000) r
-        (now (f .exit)) (now (t .exit)) ⌝ }
+        ⌜ Answers (claimOf (now (words .entry)) count (now (assumed .entry)) (now (names .entry)) goal (now (terms .entry)) 16384 1000000) r
+        (now (words .exit)) (now (terms .exit)) ⌝ }
 {
     let mut work = context::filled(0);
-    prove::prove(f, count, assumed, names, goal, t, &mut work, 1000000)
+    prove::prove(words, count, assumed, names, goal, terms, &mut work, STEPS)
 }
 
 // The lines of a proved goal: its counts and the text of its term, or the writer's refusal.
 fn proved_lines(
-    f: &[u32],
+    words: &[u32],
     formulas: usize,
     assumptions: usize,
     names: &[u8],
-    t: &[u16],
-    terms: usize,
+    terms: &[u16],
+    nodes: usize,
     root: usize,
     steps: usize,
     indices: usize,
     out: &mut [u8],
 ) -> usize
-    requires { ⌜ Printable steps × Printable indices × Printable formulas × Printable terms ⌝ }
-    requires { ⌜ length (provedLines steps indices formulas terms
-        (written (draft (now f) formulas assumptions (now names) (now t) terms root (replicate 32768 0)))) ≤ length (now out) ⌝ }
-    ensures { λ _.
-        ⌜ now (out .exit) ≡ padded (length (now (out .entry))) (provedLines steps indices formulas terms
-        (written (draft (now (f .entry)) formulas assumptions (now (names .entry)) (now (t .entry)) terms root (replicate 32768 0)))) ⌝ }
-    ensures { λ r.
-        ⌜ r ≡ length (provedLines steps indices formulas terms
-        (written (draft (now (f .entry)) formulas assumptions (now (names .entry)) (now (t .entry)) terms root (replicate 32768 0)))) ⌝ }
+    requires printable { ⌜ Printable steps × Printable indices × Printable formulas × Printable nodes ⌝ }
+    requires room { ⌜ length (provedLines steps indices formulas nodes
+        (written (draft (now words) formulas assumptions (now names) (now terms) nodes root (replicate 32768 0)))) ≤ length (now out) ⌝ }
+    ensures out { λ _.
+        ⌜ now (out .exit) ≡ padded (length (now (out .entry))) (provedLines steps indices formulas nodes
+        (written (draft (now (words .entry)) formulas assumptions (now (names .entry)) (now (terms .entry)) nodes root
+        (replicate 32768 0)))) ⌝ }
+    ensures length { λ r.
+        ⌜ r ≡ length (provedLines steps indices formulas nodes
+        (written (draft (now (words .entry)) formulas assumptions (now (names .entry)) (now (terms .entry)) nodes root
+        (replicate 32768 0)))) ⌝ }
 {
-    let mut text = [0u8; 32768];
+    let mut text = [0u8; TEXT_BYTES];
     let mut number = 0;
     let mut place = 0;
     let size = house_text::write_text(
-        f,
+        words,
         formulas,
         assumptions,
         names,
-        t,
         terms,
+        nodes,
         root,
         &mut text,
         &mut number,
         &mut place,
     );
     if number == 0 {
-        return house_lines::proved(out, steps, indices, formulas, terms, &text[..size]);
+        return house_lines::proved(out, steps, indices, formulas, nodes, &text[..size]);
     }
     house_lines::refused(out, number)
 }
@@ -78,18 +100,18 @@ fn proved_lines(
 // The lines of one answer of the search.
 fn answer_lines(
     outcome: Outcome,
-    f: &[u32],
-    t: &[u16],
+    words: &[u32],
+    terms: &[u16],
     assumptions: usize,
     names: &[u8],
     out: &mut [u8],
 ) -> usize
-    requires { ⌜ Printables outcome ⌝ }
-    requires { ⌜ length (linesFor outcome (now f) (now t) assumptions (now names)) ≤ length (now out) ⌝ }
-    ensures { λ _.
+    requires printable { ⌜ Printables outcome ⌝ }
+    requires room { ⌜ length (linesFor outcome (now words) (now terms) assumptions (now names)) ≤ length (now out) ⌝ }
+    ensures out { λ _.
         ⌜ now (out .exit) ≡
-        padded (length (now (out .entry))) (linesFor outcome (now (f .entry)) (now (t .entry)) assumptions (now (names .entry))) ⌝ }
-    ensures { λ r. ⌜ r ≡ length (linesFor outcome (now (f .entry)) (now (t .entry)) assumptions (now (names .entry))) ⌝ }
+        padded (length (now (out .entry))) (linesFor outcome (now (words .entry)) (now (terms .entry)) assumptions (now (names .entry))) ⌝ }
+    ensures length { λ r. ⌜ r ≡ length (linesFor outcome (now (words .entry)) (now (terms .entry)) assumptions (now (names .entry))) ⌝ }
 {
     match outcome {
         Outcome::Proved {
@@ -97,14 +119,14 @@ fn answer_lines(
             steps,
             indices,
             formulas,
-            terms,
+            terms: nodes,
         } => proved_lines(
-            f,
+            words,
             formulas,
             assumptions,
             names,
-            t,
             terms,
+            nodes,
             root,
             steps,
             indices,
@@ -133,23 +155,23 @@ fn goal_lines(
     terms: &mut [u16],
     out: &mut [u8],
 ) -> usize
-    requires { ⌜ decoded (now file) ≡ some (fileIn formulas assumptions goal (now file)) ⌝ }
-    requires { ⌜ Seen formulas assumptions (now file) ⌝ }
-    requires { ⌜ now words ≡ replicate 4096 0 ⌝ }
-    requires { ⌜ length (now indices) ≡ 64 ⌝ }
-    requires { ⌜ length (now names) ≡ 32768 ⌝ }
-    requires { ⌜ now terms ≡ replicate 24576 0 ⌝ }
-    requires { ⌜ 32835 ≤ length (now out) ⌝ }
-    ensures { λ _.
+    requires tested { ⌜ decoded (now file) ≡ some (fileIn formulas assumptions goal (now file)) ⌝ }
+    requires seen { ⌜ Seen formulas assumptions (now file) ⌝ }
+    requires words { ⌜ now words ≡ replicate 4096 0 ⌝ }
+    requires indices { ⌜ length (now indices) ≡ 64 ⌝ }
+    requires names { ⌜ length (now names) ≡ 32768 ⌝ }
+    requires terms { ⌜ now terms ≡ replicate 24576 0 ⌝ }
+    requires room { ⌜ 32835 ≤ length (now out) ⌝ }
+    ensures out { λ _.
         ⌜ now (out .exit) ≡
         padded (length (now (out .entry))) (goalLines (fileIn formulas assumptions goal (now (file .entry))) goal) ⌝ }
-    ensures { λ r. ⌜ r ≡ length (goalLines (fileIn formulas assumptions goal (now (file .entry))) goal) ⌝ }
+    ensures length { λ r. ⌜ r ≡ length (goalLines (fileIn formulas assumptions goal (now (file .entry))) goal) ⌝ }
 {
     let first = 4 + 4 * formulas;
     house_sections::fill_words(file, formulas, words);
     house_sections::fill_indices(file, first, assumptions, indices);
     let size = house_sections::fill_names(file, first, assumptions, names);
-    let outcome = search(
+    let outcome = search_claim(
         words,
         formulas,
         &indices[..assumptions],
@@ -160,7 +182,7 @@ fn goal_lines(
     answer_lines(outcome, words, terms, assumptions, &names[..size], out)
 }
 
-// The output for a file that passed the test: "The program lends 4,096 words, 4,096 nodes, 1,000,000 steps, 32,768 text bytes".
+// The output for a file that passed the test, over the arrays that the program lends.
 fn held_output(
     file: &[u8],
     formulas: usize,
@@ -168,16 +190,16 @@ fn held_output(
     goal: usize,
     out: &mut [u8],
 ) -> usize
-    requires { ⌜ decoded (now file) ≡ some (fileIn formulas assumptions goal (now file)) ⌝ }
-    requires { ⌜ Seen formulas assumptions (now file) ⌝ }
-    requires { ⌜ 32835 ≤ length (now out) ⌝ }
-    ensures { λ _. ⌜ now (out .exit) ≡ padded (length (now (out .entry))) (printed (now (file .entry))) ⌝ }
-    ensures { λ r. ⌜ r ≡ length (printed (now (file .entry))) ⌝ }
+    requires tested { ⌜ decoded (now file) ≡ some (fileIn formulas assumptions goal (now file)) ⌝ }
+    requires seen { ⌜ Seen formulas assumptions (now file) ⌝ }
+    requires room { ⌜ 32835 ≤ length (now out) ⌝ }
+    ensures out { λ _. ⌜ now (out .exit) ≡ padded (length (now (out .entry))) (printed (now (file .entry))) ⌝ }
+    ensures length { λ r. ⌜ r ≡ length (printed (now (file .entry))) ⌝ }
 {
-    let mut words = [0u32; 4096];
-    let mut indices = [0u16; 64];
-    let mut names = [0u8; 32768];
-    let mut terms = [0u16; 24576];
+    let mut words = [0u32; WORDS];
+    let mut indices = [0u16; ASSUMPTIONS];
+    let mut names = [0u8; NAME_BYTES];
+    let mut terms = [0u16; NODES * proof_term::WIDTH];
     goal_lines(
         file,
         formulas,
@@ -192,12 +214,12 @@ fn held_output(
 }
 
 // What the program prints for a file's bytes: how many bytes it is, at the front of an array that has room for every answer.
-pub fn output(file: &[u8], out: &mut [u8; 32835]) -> usize
-    ensures { λ _. ⌜ now (out .exit) ≡ padded 32835 (printed (now (file .entry))) ⌝ }
-    ensures { λ r. ⌜ r ≡ length (printed (now (file .entry))) ⌝ }
+pub fn output(file: &[u8], out: &mut [u8; OUTPUT_BYTES]) -> usize
+    ensures out { λ _. ⌜ now (out .exit) ≡ padded 32835 (printed (now (file .entry))) ⌝ }
+    ensures length { λ r. ⌜ r ≡ length (printed (now (file .entry))) ⌝ }
 {
     match house_sections::test_file(file) {
-        Sections::BadFile => house_lines::refused(out, 14),
+        Sections::BadFile => house_lines::refused(out, BAD_FILE),
         Sections::Held {
             formulas,
             assumptions,

@@ -32,10 +32,10 @@ fn lay_counted(out: &mut [u8], at: usize, what: &[u8], n: usize) -> usize
 
 // The line of a refusal or a shortage, by its number.
 pub fn refused(out: &mut [u8], number: usize) -> usize
-    requires { ⌜ Printable number ⌝ }
-    requires { ⌜ length (refusedLine number) ≤ length (now out) ⌝ }
-    ensures { λ _. ⌜ now (out .exit) ≡ padded (length (now (out .entry))) (refusedLine number) ⌝ }
-    ensures { λ r. ⌜ r ≡ length (refusedLine number) ⌝ }
+    requires printable { ⌜ Printable number ⌝ }
+    requires room { ⌜ length (refusedLine number) ≤ length (now out) ⌝ }
+    ensures out { λ _. ⌜ now (out .exit) ≡ padded (length (now (out .entry))) (refusedLine number) ⌝ }
+    ensures length { λ r. ⌜ r ≡ length (refusedLine number) ⌝ }
 {
     let end = lay_counted(out, 0, b"refused ", number);
     clear_from(out, end);
@@ -44,10 +44,10 @@ pub fn refused(out: &mut [u8], number: usize) -> usize
 
 // The two lines of an unprovable goal.
 pub fn unprovable(out: &mut [u8], steps: usize) -> usize
-    requires { ⌜ Printable steps ⌝ }
-    requires { ⌜ length (unprovableLines steps) ≤ length (now out) ⌝ }
-    ensures { λ _. ⌜ now (out .exit) ≡ padded (length (now (out .entry))) (unprovableLines steps) ⌝ }
-    ensures { λ r. ⌜ r ≡ length (unprovableLines steps) ⌝ }
+    requires printable { ⌜ Printable steps ⌝ }
+    requires room { ⌜ length (unprovableLines steps) ≤ length (now out) ⌝ }
+    ensures out { λ _. ⌜ now (out .exit) ≡ padded (length (now (out .entry))) (unprovableLines steps) ⌝ }
+    ensures length { λ r. ⌜ r ≡ length (unprovableLines steps) ⌝ }
 {
     let next = lay_line(out, 0, b"unprovable");
     let end = lay_counted(out, next, b"steps ", steps);
@@ -86,11 +86,11 @@ pub fn proved(
     terms: usize,
     text: &[u8],
 ) -> usize
-    requires { ⌜ Printable steps × Printable names × Printable formulas × Printable terms ⌝ }
-    requires { ⌜ length (provedWith steps names formulas terms (now text)) ≤ length (now out) ⌝ }
-    ensures { λ _.
+    requires printable { ⌜ Printable steps × Printable names × Printable formulas × Printable terms ⌝ }
+    requires room { ⌜ length (provedWith steps names formulas terms (now text)) ≤ length (now out) ⌝ }
+    ensures out { λ _.
         ⌜ now (out .exit) ≡ padded (length (now (out .entry))) (provedWith steps names formulas terms (now (text .entry))) ⌝ }
-    ensures { λ r. ⌜ r ≡ length (provedWith steps names formulas terms (now (text .entry))) ⌝ }
+    ensures length { λ r. ⌜ r ≡ length (provedWith steps names formulas terms (now (text .entry))) ⌝ }
 {
     let end = lay_proved(out, 0, steps, names, formulas, terms, text);
     clear_from(out, end);

@@ -9,10 +9,10 @@ ghost use Rattle.house_sections.specs.Held.{numbersFrom, indicesFrom, te
 
 // The number of `width` bytes at `at`, little-endian.
 fn number_at(file: &[u8], at: usize, width: usize) -> usize
-    requires { ⌜ width ≤ 4 ⌝ }
-    requires { ⌜ at + width ≤ length (now file) ⌝ }
-    ensures { λ r. ⌜ r ≡ littleEndian (take width (drop at (now (file .entry)))) ⌝ }
-    ensures { λ r. ⌜ r < 256 ^ width ⌝ }
+    requires narrow { ⌜ width ≤ 4 ⌝ }
+    requires inside { ⌜ at + width ≤ length (now file) ⌝ }
+    ensures result { λ r. ⌜ r ≡ littleEndian (take width (drop at (now (file .entry)))) ⌝ }
+    ensures bounded { λ r. ⌜ r < 256 ^ width ⌝ }
 {
     let mut number: usize = 0;
     let mut left = width;
@@ -83,8 +83,8 @@ pub enum Sections {
 
 // The test of a whole file (14).
 pub fn test_file(file: &[u8]) -> Sections
-    ensures { λ r. ⌜ heldBy r (now (file .entry)) ≡ decoded (now (file .entry)) ⌝ }
-    ensures { λ r. ⌜ Fits r (now (file .entry)) ⌝ }
+    ensures held { λ r. ⌜ heldBy r (now (file .entry)) ≡ decoded (now (file .entry)) ⌝ }
+    ensures fits { λ r. ⌜ Fits r (now (file .entry)) ⌝ }
 {
     if 32768 < file.len() {
         return Sections::BadFile;
@@ -119,8 +119,8 @@ pub fn test_file(file: &[u8]) -> Sections
 
 // The words of the formulas, at the front of a lent array.
 pub fn fill_words(file: &[u8], count: usize, words: &mut [u32])
-    requires { ⌜ 2 + 4 * count ≤ length (now file) ⌝ }
-    requires { ⌜ count ≤ length (now words) ⌝ }
+    requires section { ⌜ 2 + 4 * count ≤ length (now file) ⌝ }
+    requires room { ⌜ count ≤ length (now words) ⌝ }
     ensures { λ _. ⌜ now (words .exit) ≡ laidOver (numbersFrom 4 count (drop 2 (now (file .entry)))) (now (words .entry)) ⌝ }
 {
     let mut i = 0;
@@ -133,9 +133,9 @@ pub fn fill_words(file: &[u8], count: usize, words: &mut [u32])
 
 // The formula indices of the assumptions, at the front of a lent array.
 pub fn fill_indices(file: &[u8], from: usize, count: usize, indices: &mut [u16])
-    requires { ⌜ Whole (entriesEnd from count (drop from (now file))) ⌝ }
-    requires { ⌜ from ≤ length (now file) ⌝ }
-    requires { ⌜ count ≤ length (now indices) ⌝ }
+    requires whole { ⌜ Whole (entriesEnd from count (drop from (now file))) ⌝ }
+    requires inside { ⌜ from ≤ length (now file) ⌝ }
+    requires room { ⌜ count ≤ length (now indices) ⌝ }
     ensures { λ _. ⌜ now (indices .exit) ≡ laidOver (indicesFrom count (drop from (now (file .entry)))) (now (indices .entry)) ⌝ }
 {
     let mut at = from;
@@ -161,11 +161,11 @@ fn copy(part: &[u8], text: &mut [u8], at: usize)
 
 // The names of the assumptions, each after its length byte, at the front of a lent array; how many bytes they take.
 pub fn fill_names(file: &[u8], from: usize, count: usize, text: &mut [u8]) -> usize
-    requires { ⌜ Whole (entriesEnd from count (drop from (now file))) ⌝ }
-    requires { ⌜ from ≤ length (now file) ⌝ }
-    requires { ⌜ length (now file) ≤ length (now text) ⌝ }
-    ensures { λ _. ⌜ now (text .exit) ≡ laidOver (textFrom count (drop from (now (file .entry)))) (now (text .entry)) ⌝ }
-    ensures { λ r. ⌜ r ≡ length (textFrom count (drop from (now (file .entry)))) ⌝ }
+    requires whole { ⌜ Whole (entriesEnd from count (drop from (now file))) ⌝ }
+    requires inside { ⌜ from ≤ length (now file) ⌝ }
+    requires room { ⌜ length (now file) ≤ length (now text) ⌝ }
+    ensures text { λ _. ⌜ now (text .exit) ≡ laidOver (textFrom count (drop from (now (file .entry)))) (now (text .entry)) ⌝ }
+    ensures length { λ r. ⌜ r ≡ length (textFrom count (drop from (now (file .entry)))) ⌝ }
 {
     let mut at = from;
     let mut filled = 0;

@@ -10,7 +10,6 @@ use lib.Seq.{length-take-le, getD-take}
 use Rattle.theory.specs.Term.{Node, NodesFrom, node, assumed, term}
 use Rattle.theory.specs.NameText.{namesIn, Written}
 use Rattle.theory.specs.Layout.{nodeWidth, pieceAt, nodesFrom, nodesIn}
-use Rattle.theory.specs.Refusal.{Fault, Sizes, BadFormula, BadAssumption, BadNames, BadGoal, NoRoom, BadTerm, BadFile, faultNumber}
 use Rattle.theory.specs.Refusal.{Refused, formulaSizes, termSizes, nodeSizes}
 use Rattle.theory.specs.Writer.{Draft, writerRefusal, drafted, textFitted, notWritten, written}
 use Rattle.theory.proofs.Passing.{formula-sizes}
@@ -19,7 +18,7 @@ use Rattle.theory.proofs.Words.{decodes}
 use Rattle.theory.proofs.WriterPass.{Drafted, draft-passes}
 use Rattle.identifier_generator.specs.Handed.{Hands}
 use Rattle.house_text.specs.Pieces.{book, nodes, Given}
-use Rattle.house_text.specs.Tested.{numberOf, placeOf}
+use Rattle.refusal.specs.Table.{numberIn, placeIn}
 use Rattle.house_text.proofs.WholeText.{text-front}
 
 -- the nodes of a front that holds them all
@@ -43,23 +42,6 @@ nodes-taken t m j (suc k) h =
     ap₂ {C = List Node} (λ p ns. node assumed p ∷ ns) (piece-taken t m (j * nodeWidth) (omega arith))
     (nodes-taken t m (suc j) k (omega arith))
 
--- 0 is no refusal's number
-fault-number : (f : Fault) → 0 < faultNumber f
-unfolding faultNumber
-fault-number Sizes = omega arith
-fault-number BadFormula = omega arith
-fault-number BadAssumption = omega arith
-fault-number BadNames = omega arith
-fault-number BadGoal = omega arith
-fault-number NoRoom = omega arith
-fault-number BadTerm = omega arith
-fault-number BadFile = omega arith
-
-pub none-refused : (o : Option Refused) → numberOf o ≡ 0 → o ≡ none
-unfolding numberOf
-none-refused none e = refl
-none-refused (some r) e = absurd (omega (arith, fault-number (r .fault)))
-
 module _ (x : Draft) where
   abbrev byRefusal : Option Refused → Written
   byRefusal o = elim o [
@@ -68,9 +50,9 @@ module _ (x : Draft) where
   ]
 
   -- a refused draft
-  pub refused-hands : (o : Option Refused) → o ≡ writerRefusal x → (numberOf o ≡ 0 → ⊥) →
-      Hands (written x) 0 (numberOf o) (x .buffer) × (placeOf o ≡ (written x) .place)
-  unfolding written notWritten numberOf placeOf
+  pub refused-hands : (o : Option Refused) → o ≡ writerRefusal x → (numberIn o ≡ 0 → ⊥) →
+      Hands (written x) 0 (numberIn o) (x .buffer) × (placeIn o ≡ (written x) .place)
+  unfolding written notWritten numberIn placeIn
   refused-hands none e n = absurd (n refl)
   refused-hands (some r) e n =
       let as-refused : byRefusal (some r) ≡ written x = ap byRefusal e in (

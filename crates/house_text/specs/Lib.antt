@@ -1,3 +1,3 @@
 pub mod Laid
 pub mod Pieces
-pub mod Tested
+pub mod Drafted

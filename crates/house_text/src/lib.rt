@@ -16,11 +16,15 @@ ghost use Rattle.identifier_generator.specs.Handed.{Hands, HandsPart};
 ghost use Rattle.proof_term.specs.Kinds.{fieldAs};
 ghost use Rattle.house_text.specs.Laid.{Laid};
 ghost use Rattle.house_text.specs.Pieces.{opening, keyword, formPiece, termPiece, fieldPiece, book, nodes, Given, GoodWords, FieldIn};
-ghost use Rattle.house_text.specs.Tested.{draft, refusedBy, numberOf, placeOf};
+ghost use Rattle.refusal.specs.Table.{refusedBy};
+ghost use Rattle.house_text.specs.Drafted.{draft};
+use identifier_generator::GENERATED;
 use proof_term::Field;
 use proof_term::Fields;
 use proof_term::WIDTH;
 use proof_term::number;
+use refusal::Place;
+use refusal::Tested;
 
 // Each function that lays a piece returns the next place; one past the end says that the text has no room, and then nothing more is laid.
 fn lay_byte(buf: &mut [u8], at: usize, b: u8) -> usize
@@ -52,10 +56,10 @@ pub fn lay_decimal(buf: &mut [u8], at: usize, n: usize) -> usize
     ensures { λ r. ⌜ Laid (some (decimal n)) (now (buf .entry)) at (now (buf .exit)) r ⌝ }
 {
     if n < 10 {
-        return lay_byte(buf, at, 48 + n as u8);
+        return lay_byte(buf, at, b'0' + n as u8);
     }
     let next = lay_decimal(buf, at, n / 10);
-    lay_byte(buf, next, 48 + (n % 10) as u8)
+    lay_byte(buf, next, b'0' + (n % 10) as u8)
 }
 
 // The letters of generated index `g`.
@@ -76,19 +80,20 @@ fn lay_generated(buf: &mut [u8], at: usize, g: usize) -> usize
 fn lay_name(buf: &mut [u8], at: usize, names: &[u8], x: usize) -> usize
     ensures { λ r. ⌜ Laid (some (bytesOf (namesIn (now (names .entry))) x)) (now (buf .entry)) at (now (buf .exit)) r ⌝ }
 {
-    if x < 64 {
+    if x < GENERATED {
         return lay(buf, at, identifier_generator::name(names, names, x));
     }
-    lay_generated(buf, at, x - 64)
+    lay_generated(buf, at, x - GENERATED)
 }
 
+// The letter of a leaf's kind.
 fn leaf_letter(kind: usize) -> u8
     ensures { λ r. ⌜ r ∷ [] ≡ leafText kind ⌝ }
 {
-    if kind <= 2 {
+    if kind <= formula::ATOM {
         return b'p';
     }
-    if kind <= 6 {
+    if kind <= formula::FOR_ALL {
         return b'U';
     }
     b'E'
@@ -108,17 +113,17 @@ fn lay_opening(buf: &mut [u8], at: usize, kind: usize) -> usize
     ensures { λ r. ⌜ Laid (some (opening kind)) (now (buf .entry)) at (now (buf .exit)) r ⌝ }
 {
     match kind {
-        3 => lay(buf, at, b"(& "),
-        4 => lay(buf, at, b"(| "),
+        formula::AND => lay(buf, at, b"(& "),
+        formula::OR => lay(buf, at, b"(| "),
         _ => lay(buf, at, b"(> "),
     }
 }
 
 // The formula at `i`, of which at most `levels` nodes may stand on a path. Its halves have smaller indices.
-fn lay_formula(buf: &mut [u8], at: usize, f: &[u32], i: usize, levels: usize) -> usize
-    requires { ⌜ GoodWords (now f) ⌝ }
-    requires { ⌜ i < length (now f) ⌝ }
-    ensures { λ r. ⌜ Laid (formPiece (now (f .entry)) levels i) (now (buf .entry)) at (now (buf .exit)) r ⌝ }
+fn lay_formula(buf: &mut [u8], at: usize, words: &[u32], i: usize, levels: usize) -> usize
+    requires good { ⌜ GoodWords (now words) ⌝ }
+    requires inside { ⌜ i < length (now words) ⌝ }
+    ensures { λ r. ⌜ Laid (formPiece (now (words .entry)) levels i) (now (buf .entry)) at (now (buf .exit)) r ⌝ }
 {
     if levels == 0 {
         return buf.len() + 1;
@@ -126,25 +131,25 @@ fn lay_formula(buf: &mut [u8], at: usize, f: &[u32], i: usize, levels: usize) ->
     if buf.len() < at {
         return at;
     }
-    let kind = formula::kind(f, i);
-    let left = formula::left(f, i);
-    if kind == 0 {
+    let kind = formula::kind(words, i);
+    let left = formula::left(words, i);
+    if kind == formula::TRUE {
         return lay(buf, at, b"T");
     }
-    if kind == 1 {
+    if kind == formula::FALSE {
         return lay(buf, at, b"F");
     }
-    if kind == 2 {
+    if kind == formula::ATOM {
         return lay_leaf(buf, at, kind, left);
     }
-    if 5 < kind {
+    if formula::IMPL < kind {
         return lay_leaf(buf, at, kind, left);
     }
-    let right = formula::right(f, i);
+    let right = formula::right(words, i);
     let opened = lay_opening(buf, at, kind);
-    let one = lay_formula(buf, opened, f, left, levels - 1);
+    let one = lay_formula(buf, opened, words, left, levels - 1);
     let between = lay(buf, one, b" ");
-    let two = lay_formula(buf, between, f, right, levels - 1);
+    let two = lay_formula(buf, between, words, right, levels - 1);
     lay(buf, two, b")")
 }
 
@@ -153,16 +158,16 @@ fn lay_keyword(buf: &mut [u8], at: usize, kind: usize) -> usize
     ensures { λ r. ⌜ Laid (some (keyword kind)) (now (buf .entry)) at (now (buf .exit)) r ⌝ }
 {
     match kind {
-        1 => lay(buf, at, b"(pair"),
-        2 => lay(buf, at, b"(fst"),
-        3 => lay(buf, at, b"(snd"),
-        4 => lay(buf, at, b"(fn"),
-        5 => lay(buf, at, b"(app"),
-        7 => lay(buf, at, b"(inl"),
-        8 => lay(buf, at, b"(inr"),
-        9 => lay(buf, at, b"(case"),
-        10 => lay(buf, at, b"(abort"),
-        11 => lay(buf, at, b"(as"),
+        proof_term::PAIR => lay(buf, at, b"(pair"),
+        proof_term::PROJECT_FST => lay(buf, at, b"(fst"),
+        proof_term::PROJECT_SND => lay(buf, at, b"(snd"),
+        proof_term::FUNCTION => lay(buf, at, b"(fn"),
+        proof_term::APPLICATION => lay(buf, at, b"(app"),
+        proof_term::OR_LEFT => lay(buf, at, b"(inl"),
+        proof_term::OR_RIGHT => lay(buf, at, b"(inr"),
+        proof_term::CASE => lay(buf, at, b"(case"),
+        proof_term::ABORT => lay(buf, at, b"(abort"),
+        proof_term::ASCRIPTION => lay(buf, at, b"(as"),
         _ => lay(buf, at, b"("),
     }
 }
@@ -171,18 +176,17 @@ fn lay_keyword(buf: &mut [u8], at: usize, kind: usize) -> usize
 fn lay_field(
     buf: &mut [u8],
     at: usize,
-    f: &[u32],
-    t: &[u16],
+    words: &[u32],
+    terms: &[u16],
     names: &[u8],
     what: Field,
     x: usize,
     levels: usize,
 ) -> usize
-    requires { ⌜ Given (now f) (now t) ⌝ }
-    requires { ⌜ FieldIn (length (now f)) (length (now t) / nodeWidth) (fieldAs what) x ⌝ }
-    ensures { λ r.
-        ⌜ Laid (fieldPiece (now (f .entry)) (now (t .entry)) (namesIn (now (names .entry))) levels (fieldAs what) x) (now (buf .entry)) at
-        (now (buf .exit)) r ⌝ }
+    requires given { ⌜ Given (now words) (now terms) ⌝ }
+    requires field { ⌜ FieldIn (length (now words)) (length (now terms) / nodeWidth) (fieldAs what) x ⌝ }
+    ensures { λ r. ⌜ Laid (fieldPiece (now (words .entry)) (now (terms .entry)) (namesIn (now (names .entry))) levels (fieldAs what) x)
+        (now (buf .entry)) at (now (buf .exit)) r ⌝ }
 {
     match what {
         Field::Unused => at,
@@ -192,11 +196,11 @@ fn lay_field(
         }
         Field::Child => {
             let next = lay(buf, at, b" ");
-            lay_term(buf, next, f, t, names, x, levels)
+            lay_term(buf, next, words, terms, names, x, levels)
         }
         Field::Formula => {
             let next = lay(buf, at, b" ");
-            lay_formula(buf, next, f, x, levels)
+            lay_formula(buf, next, words, x, levels)
         }
     }
 }
@@ -205,15 +209,15 @@ fn lay_field(
 fn lay_term(
     buf: &mut [u8],
     at: usize,
-    f: &[u32],
-    t: &[u16],
+    words: &[u32],
+    terms: &[u16],
     names: &[u8],
     i: usize,
     levels: usize,
 ) -> usize
-    requires { ⌜ Given (now f) (now t) × (i < length (now t) / nodeWidth) ⌝ }
+    requires { ⌜ Given (now words) (now terms) × (i < length (now terms) / nodeWidth) ⌝ }
     ensures { λ r.
-        ⌜ Laid (termPiece (now (f .entry)) (now (t .entry)) (namesIn (now (names .entry))) levels i) (now (buf .entry)) at
+        ⌜ Laid (termPiece (now (words .entry)) (now (terms .entry)) (namesIn (now (names .entry))) levels i) (now (buf .entry)) at
         (now (buf .exit)) r ⌝ }
 {
     if levels == 0 {
@@ -223,103 +227,110 @@ fn lay_term(
         return at;
     }
     let node = i * WIDTH;
-    let kind = number(t, node);
-    if kind == 0 {
-        return lay_name(buf, at, names, number(t, node + 1));
+    let kind = number(terms, node);
+    if kind == proof_term::IDENT {
+        return lay_name(buf, at, names, number(terms, node + 1));
     }
     let below = levels - 1;
     let opened = lay_keyword(buf, at, kind);
     match proof_term::fields_of(kind) {
         Fields::Held(a, b, c, d, e) => {
-            let first = lay_field(buf, opened, f, t, names, a, number(t, node + 1), below);
-            let second = lay_field(buf, first, f, t, names, b, number(t, node + 2), below);
-            let third = lay_field(buf, second, f, t, names, c, number(t, node + 3), below);
-            let fourth = lay_field(buf, third, f, t, names, d, number(t, node + 4), below);
-            let fifth = lay_field(buf, fourth, f, t, names, e, number(t, node + 5), below);
+            let first = lay_field(
+                buf,
+                opened,
+                words,
+                terms,
+                names,
+                a,
+                number(terms, node + 1),
+                below,
+            );
+            let second = lay_field(
+                buf,
+                first,
+                words,
+                terms,
+                names,
+                b,
+                number(terms, node + 2),
+                below,
+            );
+            let third = lay_field(
+                buf,
+                second,
+                words,
+                terms,
+                names,
+                c,
+                number(terms, node + 3),
+                below,
+            );
+            let fourth = lay_field(
+                buf,
+                third,
+                words,
+                terms,
+                names,
+                d,
+                number(terms, node + 4),
+                below,
+            );
+            let fifth = lay_field(
+                buf,
+                fourth,
+                words,
+                terms,
+                names,
+                e,
+                number(terms, node + 5),
+                below,
+            );
             lay(buf, fifth, b")")
         }
         Fields::Refused => lay(buf, opened, b")"),
     }
 }
 
-// What the tests of 1, 2, 3 (the count alone), 4 and 13 say, with the place of the fault.
-pub enum Tested {
-    Passed,
-    Sizes,
-    BadFormula(usize),
-    BadAssumption(usize),
-    BadNames(usize),
-    BadTerm(usize),
-}
-
-fn right_sizes(words: usize, count: usize, numbers: usize, nodes: usize) -> bool
-    ensures { λ r. ⌜ r ≡ (formulaSizes words count && nodeSizes numbers nodes) ⌝ }
+// 1: the sizes of both slices.
+fn right_sizes(room: usize, count: usize, numbers: usize, nodes: usize) -> bool
+    ensures { λ r. ⌜ r ≡ (formulaSizes room count && nodeSizes numbers nodes) ⌝ }
 {
-    if formula::formula_sizes(words, count) {
-        return formula::node_sizes(numbers, nodes);
+    if refusal::formula_sizes(room, count) {
+        return refusal::node_sizes(numbers, nodes);
     }
     false
 }
 
 // The first test that refuses, in the order 1, 2, 3, 4, 13.
 fn test(
-    f: &[u32],
+    words: &[u32],
     count: usize,
     assumptions: usize,
     names: &[u8],
-    t: &[u16],
+    terms: &[u16],
     nodes: usize,
     root: usize,
 ) -> Tested
     ensures { λ r.
         ⌜ refusedBy r ≡
-        writerRefusal (draft (now (f .entry)) count assumptions (now (names .entry)) (now (t .entry)) nodes root []) ⌝ }
+        writerRefusal (draft (now (words .entry)) count assumptions (now (names .entry)) (now (terms .entry)) nodes root []) ⌝ }
 {
-    if right_sizes(f.len(), count, t.len(), nodes) {
-        if let formula::Place::At(i) = formula::bad_word(f, count) {
+    if right_sizes(words.len(), count, terms.len(), nodes) {
+        if let Place::At(i) = refusal::bad_word(words, count) {
             return Tested::BadFormula(i);
         }
-        if let formula::Place::At(i) = formula::too_many(assumptions) {
+        if let Place::At(i) = refusal::too_many(assumptions) {
             return Tested::BadAssumption(i);
         }
-        if let identifier_generator::Fault::At(i) = identifier_generator::bad_name(
-            names,
-            assumptions,
-        ) {
+        if let Place::At(i) = refusal::bad_name(names, assumptions) {
             return Tested::BadNames(i);
         }
-        if let proof_term::Place::At(i) = proof_term::bad_term(t, nodes, root, count, names) {
+        if let Place::At(i) = refusal::bad_term(terms, nodes, root, count, names) {
             return Tested::BadTerm(i);
         }
         return Tested::Passed;
     }
     Tested::Sizes
-}
-
-fn number_of(tested: Tested) -> usize
-    ensures { λ r. ⌜ r ≡ numberOf (refusedBy tested) ⌝ }
-{
-    match tested {
-        Tested::Passed => 0,
-        Tested::Sizes => 1,
-        Tested::BadFormula(_) => 2,
-        Tested::BadAssumption(_) => 3,
-        Tested::BadNames(_) => 4,
-        Tested::BadTerm(_) => 13,
-    }
-}
-
-fn place_of(tested: Tested) -> usize
-    ensures { λ r. ⌜ r ≡ placeOf (refusedBy tested) ⌝ }
-{
-    match tested {
-        Tested::Passed => 0,
-        Tested::Sizes => 0,
-        Tested::BadFormula(i) => i,
-        Tested::BadAssumption(i) => i,
-        Tested::BadNames(i) => i,
-        Tested::BadTerm(i) => i,
-    }
 }
 
 // Zeros from `from` on. Behind the program's lines too.
@@ -339,23 +350,23 @@ const MOST_LEVELS: usize = 1024;
 
 // Writes the term at node `root` and zeros behind it, and returns how many bytes its text has; 12 leaves the buffer zero.
 fn write_term(
-    f: &[u32],
-    t: &[u16],
+    words: &[u32],
+    terms: &[u16],
     names: &[u8],
     root: usize,
     buf: &mut [u8],
     number: &mut usize,
 ) -> usize
-    requires { ⌜ Given (now f) (now t) ⌝ }
-    requires { ⌜ root < length (now t) / nodeWidth ⌝ }
+    requires given { ⌜ Given (now words) (now terms) ⌝ }
+    requires root { ⌜ root < length (now terms) / nodeWidth ⌝ }
     ensures { λ r.
-        ⌜ Hands (textFitted (namesIn (now (names .entry))) (term (book (now (f .entry))) (nodes (now (t .entry))) root)
+        ⌜ Hands (textFitted (namesIn (now (names .entry))) (term (book (now (words .entry))) (nodes (now (terms .entry))) root)
         (length (now (buf .entry)))) r (now (number .exit)) (now (buf .exit)) ⌝ }
 {
-    let end = lay_term(buf, 0, f, t, names, root, MOST_LEVELS);
+    let end = lay_term(buf, 0, words, terms, names, root, MOST_LEVELS);
     if buf.len() < end {
         clear_from(buf, 0);
-        *number = 12;
+        *number = identifier_generator::NO_ROOM;
         return 0;
     }
     clear_from(buf, end);
@@ -366,61 +377,57 @@ fn write_term(
 // Writes the house text of the term at node `root`, and returns how many bytes it has. Sets `number` to 0, or to a refusal's, and `place`:
 // 12 leaves the buffer zero, 1 to 4 and 13 leave it as it was.
 pub fn write_text(
-    f: &[u32],
+    words: &[u32],
     count: usize,
     assumptions: usize,
     names: &[u8],
-    t: &[u16],
+    terms: &[u16],
     nodes: usize,
     root: usize,
     buf: &mut [u8],
     number: &mut usize,
     place: &mut usize,
 ) -> usize
-    ensures { λ r.
-        ⌜ Hands (written (draft (now (f .entry)) count assumptions (now (names .entry)) (now (t .entry)) nodes root (now (buf .entry)))) r
-        (now (number .exit)) (now (buf .exit)) ⌝ }
-    ensures { λ _.
-        ⌜ now (place .exit) ≡
-        (written (draft (now (f .entry)) count assumptions (now (names .entry)) (now (t .entry)) nodes root (now (buf .entry)))) .place ⌝ }
+    ensures written { λ r. ⌜ Hands (written (draft (now (words .entry)) count assumptions (now (names .entry)) (now (terms .entry)) nodes
+        root (now (buf .entry)))) r (now (number .exit)) (now (buf .exit)) ⌝ }
+    ensures place { λ _. ⌜ now (place .exit) ≡ (written (draft (now (words .entry)) count assumptions (now (names .entry))
+        (now (terms .entry)) nodes root (now (buf .entry)))) .place ⌝ }
 {
-    let tested = test(f, count, assumptions, names, t, nodes, root);
-    let refused = number_of(tested);
+    let tested = test(words, count, assumptions, names, terms, nodes, root);
+    let refused = refusal::number_of(tested);
     *number = refused;
-    *place = place_of(tested);
+    *place = refusal::place_of(tested);
     if refused == 0 {
         let numbers = nodes * WIDTH;
-        return write_term(&f[..count], &t[..numbers], names, root, buf, number);
+        return write_term(&words[..count], &terms[..numbers], names, root, buf, number);
     }
     0
 }
 
 // The house text as the front part of the buffer that `write_text` fills.
 pub fn write<'a>(
-    f: &[u32],
+    words: &[u32],
     count: usize,
     assumptions: usize,
     names: &[u8],
-    t: &[u16],
+    terms: &[u16],
     nodes: usize,
     root: usize,
     buf: &'a mut [u8],
     number: &mut usize,
     place: &mut usize,
 ) -> &'a mut [u8]
-    ensures { λ r.
-        ⌜ HandsPart (written (draft (now (f .entry)) count assumptions (now (names .entry)) (now (t .entry)) nodes root (now (buf .entry))))
-        (buf .entry) r (now (number .exit)) ⌝ }
-    ensures { λ _.
-        ⌜ now (place .exit) ≡
-        (written (draft (now (f .entry)) count assumptions (now (names .entry)) (now (t .entry)) nodes root (now (buf .entry)))) .place ⌝ }
+    ensures written { λ r. ⌜ HandsPart (written (draft (now (words .entry)) count assumptions (now (names .entry)) (now (terms .entry))
+        nodes root (now (buf .entry)))) (buf .entry) r (now (number .exit)) ⌝ }
+    ensures place { λ _. ⌜ now (place .exit) ≡ (written (draft (now (words .entry)) count assumptions (now (names .entry))
+        (now (terms .entry)) nodes root (now (buf .entry)))) .place ⌝ }
 {
     let n = write_text(
-        f,
+        words,
         count,
         assumptions,
         names,
-        t,
+        terms,
         nodes,
         root,
         buf,

@@ -1,3 +1,2 @@
 pub mod Entry
-pub mod Places
 pub mod Handed

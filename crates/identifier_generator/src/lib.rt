@@ -3,19 +3,32 @@ ghost use Prim.Native.Nat.{_/_, _%_, _^_, _≤_};
 ghost use mathlib.Core.Path.{_≡_};
 ghost use lib.ListN.{length, getD, replicate};
 ghost use Rattle.theory.specs.Names.{spell, same, among, skipped, fresh};
-ghost use Rattle.theory.specs.NameText.{namesIn, between, nameByte, wellSpelled, lawfulAfter, badName, padded, nameAlone};
+ghost use Rattle.theory.specs.NameText.{namesIn, between, nameByte, wellSpelled, lawfulAfter, padded, nameAlone};
 ghost use Rattle.identifier_generator.specs.Entry.{entrySize, entryFrom, EntryPart, NamePart};
-ghost use Rattle.identifier_generator.specs.Places.{placeOf};
 ghost use Rattle.identifier_generator.specs.Handed.{Hands, HandsPart};
 
 // Generated indices are at most this.
-const LAST_INDEX: usize = 4095;
+pub const LAST_INDEX: usize = 4095;
+
+// Names below this number are the assumptions'; a generated index is added to it.
+pub const GENERATED: usize = 64;
+
+// The numbers of document 01's table that a name asked for alone can meet.
+const NAMES: usize = 7;
+
+pub const NO_ROOM: usize = 12;
+
+// The most bytes of an assumption's name.
+const MOST_BYTES: usize = 32;
+
+// The letters of the alphabet.
+const LETTERS: usize = 26;
 
 // How many letters index `i` has.
 pub fn letter_count(i: usize) -> usize
     ensures { λ r. ⌜ r ≡ length (spell i) ⌝ }
 {
-    i / 26 + 1
+    i / LETTERS + 1
 }
 
 // Digit `k` of `i` in base 26, by a power of its own; 0 where the power passes `i`.
@@ -25,13 +38,13 @@ fn digit(i: usize, k: usize) -> usize
     let mut power: usize = 1;
     let mut n = 0;
     while n < k {
-        if i / 26 < power {
+        if i / LETTERS < power {
             return 0;
         }
-        power *= 26;
+        power *= LETTERS;
         n += 1;
     }
-    i / power % 26
+    i / power % LETTERS
 }
 
 // Letter `j` of index `i`, the front one first; 0 after the last.
@@ -42,11 +55,11 @@ pub fn letter(i: usize, j: usize) -> u8
     if count <= j {
         return 0;
     }
-    97 + digit(i, count - 1 - j) as u8
+    b'a' + digit(i, count - 1 - j) as u8
 }
 
 // Whether index `i` is spelled as `name`; a name of another length is passed over.
-pub fn spells(i: usize, name: &[u8]) -> bool
+fn spells(i: usize, name: &[u8]) -> bool
     ensures { λ r. ⌜ r ≡ same (spell i) (now (name .entry)) ⌝ }
 {
     if letter_count(i) != name.len() {
@@ -105,12 +118,6 @@ pub fn fresh(text: &[u8], i: usize) -> usize
     next
 }
 
-// Where the assumptions' names are faulty.
-pub enum Fault {
-    Nowhere,
-    At(usize),
-}
-
 fn within(low: u8, high: u8, b: u8) -> bool
     ensures { λ r. ⌜ r ≡ between low high b ⌝ }
 {
@@ -143,7 +150,7 @@ fn well_spelled(name: &[u8]) -> bool
     if name.len() < 1 {
         return false;
     }
-    if 32 < name.len() {
+    if MOST_BYTES < name.len() {
         return false;
     }
     let mut i = 0;
@@ -192,39 +199,13 @@ fn stands_in(name: &[u8], text: &[u8]) -> bool
 }
 
 // Whether an assumption may carry `name` where the names of `earlier` are given already.
-fn lawful(name: &[u8], earlier: &[u8]) -> bool
+pub fn lawful(name: &[u8], earlier: &[u8]) -> bool
     ensures { λ r. ⌜ r ≡ lawfulAfter (namesIn (now (earlier .entry))) (now (name .entry)) ⌝ }
 {
     if stands_in(name, earlier) {
         return false;
     }
     well_spelled(name)
-}
-
-// The first faulty name of a text that is to hold `count` names; surplus text faults at the count.
-pub fn bad_name(text: &[u8], count: usize) -> Fault
-    ensures { λ r. ⌜ placeOf r ≡ badName count (now (text .entry)) ⌝ }
-{
-    let mut at = 0;
-    let mut place = 0;
-    while place < count {
-        let size = entry_size(&text[at..]);
-        if size == 0 {
-            return Fault::At(place);
-        }
-        let start = at + 1;
-        let end = at + size;
-        if lawful(&text[start..end], &text[..at]) {
-            at = end;
-            place += 1;
-        } else {
-            return Fault::At(place);
-        }
-    }
-    if at < text.len() {
-        return Fault::At(count);
-    }
-    Fault::Nowhere
 }
 
 // Where an entry of a text stands: its bytes from `start` to `end`.
@@ -268,10 +249,10 @@ fn entry_part<'a>(text: &'a [u8], k: usize, assumed: &'a [u8]) -> &'a [u8]
 pub fn name<'a>(assumed: &'a [u8], generated: &'a [u8], x: usize) -> &'a [u8]
     ensures { λ r. ⌜ NamePart (assumed .entry) (generated .entry) x r ⌝ }
 {
-    if x < 64 {
+    if x < GENERATED {
         return entry_part(assumed, x, assumed);
     }
-    entry_part(generated, x - 64, assumed)
+    entry_part(generated, x - GENERATED, assumed)
 }
 
 fn clear(buf: &mut [u8])
@@ -303,13 +284,13 @@ pub fn write_alone(i: usize, buf: &mut [u8], number: &mut usize) -> usize
 {
     if LAST_INDEX < i {
         clear(buf);
-        *number = 7;
+        *number = NAMES;
         return 0;
     }
     let count = letter_count(i);
     if buf.len() < count {
         clear(buf);
-        *number = 12;
+        *number = NO_ROOM;
         return 0;
     }
     spell_into(i, buf);

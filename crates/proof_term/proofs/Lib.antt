@@ -4,4 +4,3 @@ pub mod PutLaws
 pub mod NodeLaws
 pub mod NameCount
 pub mod FieldLaws
-pub mod TermLaws

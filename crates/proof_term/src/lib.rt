@@ -4,9 +4,8 @@ ghost use mathlib.Core.List.{[], _∷_};
 ghost use Prim.Native.Nat.{_*_, _≤_, _<_};
 ghost use lib.ListN.{length, getD, set, take};
 ghost use Rattle.theory.specs.NameText.{namesIn, padded};
-ghost use Rattle.theory.specs.Layout.{nodeWidth, fieldsOf, lawfulName, lawfulField, lawfulNode, badTerm};
+ghost use Rattle.theory.specs.Layout.{nodeWidth, fieldsOf, lawfulName, lawfulField, lawfulNode};
 ghost use Rattle.proof_term.specs.Kinds.{fieldAs, fieldsAs};
-ghost use Rattle.proof_term.specs.Places.{placeOf};
 ghost use Rattle.proof_term.specs.Put.{low, putNode};
 use Field::Child;
 use Field::Formula;
@@ -16,30 +15,49 @@ use Field::Unused;
 // A node is so many numbers: its kind, then its fields.
 pub const WIDTH: usize = 6;
 
-// Names below this are the assumptions' numbers; a generated index is added to it.
-const ASSUMED: usize = 64;
+// The kinds of nodes, in the order of `ProofTerm`; LetIn (6) and Sorry (13) are none.
+pub const IDENT: usize = 0;
 
-// The highest generated index.
-const LAST_INDEX: usize = 4095;
+pub const PAIR: usize = 1;
+
+pub const PROJECT_FST: usize = 2;
+
+pub const PROJECT_SND: usize = 3;
+
+pub const FUNCTION: usize = 4;
+
+pub const APPLICATION: usize = 5;
+
+pub const OR_LEFT: usize = 7;
+
+pub const OR_RIGHT: usize = 8;
+
+pub const CASE: usize = 9;
+
+pub const ABORT: usize = 10;
+
+pub const ASCRIPTION: usize = 11;
+
+pub const UNIT: usize = 12;
 
 // What a field of a node holds.
 pub enum Field {
+    // a name's number
     Name,
+    // a node below it
     Child,
+    // a formula's index
     Formula,
+    // 0
     Unused,
 }
 
 // What the five fields of a kind hold, in their order; or that there is no such kind.
 pub enum Fields {
+    // the five, first to last
     Held(Field, Field, Field, Field, Field),
+    // there is no such kind
     Refused,
-}
-
-// Where the layout of a term is broken.
-pub enum Place {
-    Nowhere,
-    At(usize),
 }
 
 // The one decision over kind numbers, in the order of `ProofTerm`: LetIn (6), Sorry (13) and what lies above are refused.
@@ -47,66 +65,79 @@ pub fn fields_of(kind: usize) -> Fields
     ensures { λ r. ⌜ fieldsAs r ≡ fieldsOf kind ⌝ }
 {
     match kind {
-        0 => Fields::Held(Name, Unused, Unused, Unused, Unused),
-        1 => Fields::Held(Child, Child, Unused, Unused, Unused),
-        2 => Fields::Held(Child, Unused, Unused, Unused, Unused),
-        3 => Fields::Held(Child, Unused, Unused, Unused, Unused),
-        4 => Fields::Held(Name, Child, Unused, Unused, Unused),
-        5 => Fields::Held(Child, Child, Unused, Unused, Unused),
-        7 => Fields::Held(Child, Unused, Unused, Unused, Unused),
-        8 => Fields::Held(Child, Unused, Unused, Unused, Unused),
-        9 => Fields::Held(Child, Name, Child, Name, Child),
-        10 => Fields::Held(Child, Unused, Unused, Unused, Unused),
-        11 => Fields::Held(Child, Formula, Unused, Unused, Unused),
-        12 => Fields::Held(Unused, Unused, Unused, Unused, Unused),
+        IDENT => Fields::Held(Name, Unused, Unused, Unused, Unused),
+        PAIR => Fields::Held(Child, Child, Unused, Unused, Unused),
+        PROJECT_FST => Fields::Held(Child, Unused, Unused, Unused, Unused),
+        PROJECT_SND => Fields::Held(Child, Unused, Unused, Unused, Unused),
+        FUNCTION => Fields::Held(Name, Child, Unused, Unused, Unused),
+        APPLICATION => Fields::Held(Child, Child, Unused, Unused, Unused),
+        OR_LEFT => Fields::Held(Child, Unused, Unused, Unused, Unused),
+        OR_RIGHT => Fields::Held(Child, Unused, Unused, Unused, Unused),
+        CASE => Fields::Held(Child, Name, Child, Name, Child),
+        ABORT => Fields::Held(Child, Unused, Unused, Unused, Unused),
+        ASCRIPTION => Fields::Held(Child, Formula, Unused, Unused, Unused),
+        UNIT => Fields::Held(Unused, Unused, Unused, Unused, Unused),
         _ => Fields::Refused,
     }
 }
 
 // Number i of the nodes; 0 out of range.
-pub fn number(t: &[u16], i: usize) -> usize
-    ensures { λ r. ⌜ r ≡ getD (now (t .entry)) i 0 ⌝ }
+pub fn number(terms: &[u16], i: usize) -> usize
+    ensures { λ r. ⌜ r ≡ getD (now (terms .entry)) i 0 ⌝ }
 {
-    if i < t.len() { t[i] as usize } else { 0 }
+    if i < terms.len() {
+        terms[i] as usize
+    } else {
+        0
+    }
 }
 
 // Number i of the nodes becomes the low 16 bits of x; nothing is written out of range.
-fn store(t: &mut [u16], i: usize, x: usize)
-    ensures { λ _. ⌜ now (t .exit) ≡ set (now (t .entry)) i (low x) ⌝ }
+fn store(terms: &mut [u16], i: usize, x: usize)
+    ensures { λ _. ⌜ now (terms .exit) ≡ set (now (terms .entry)) i (low x) ⌝ }
 {
-    if i < t.len() {
-        t[i] = (x % 65536) as u16;
+    if i < terms.len() {
+        terms[i] = (x % 65536) as u16;
     }
 }
 
 // Writes node n, where the slice has room for the whole of it.
-pub fn put(t: &mut [u16], n: usize, kind: usize, a: usize, b: usize, c: usize, d: usize, e: usize)
-    ensures { λ _. ⌜ now (t .exit) ≡ putNode (now (t .entry)) n (kind ∷ a ∷ b ∷ c ∷ d ∷ e ∷ []) ⌝ }
+pub fn put(
+    terms: &mut [u16],
+    n: usize,
+    kind: usize,
+    a: usize,
+    b: usize,
+    c: usize,
+    d: usize,
+    e: usize,
+)
+    ensures { λ _. ⌜ now (terms .exit) ≡ putNode (now (terms .entry)) n (kind ∷ a ∷ b ∷ c ∷ d ∷ e ∷ []) ⌝ }
 {
-    if n < t.len() / WIDTH {
+    if n < terms.len() / WIDTH {
         let at = n * WIDTH;
-        store(t, at, kind);
-        store(t, at + 1, a);
-        store(t, at + 2, b);
-        store(t, at + 3, c);
-        store(t, at + 4, d);
-        store(t, at + 5, e);
+        store(terms, at, kind);
+        store(terms, at + 1, a);
+        store(terms, at + 2, b);
+        store(terms, at + 3, c);
+        store(terms, at + 4, d);
+        store(terms, at + 5, e);
     }
 }
 
 // The numbers from `from` on become 0.
-pub fn clear(t: &mut [u16], from: usize)
-    ensures { λ _. ⌜ now (t .exit) ≡ padded (length (now (t .entry))) (take from (now (t .entry))) ⌝ }
+pub fn clear(terms: &mut [u16], from: usize)
+    ensures { λ _. ⌜ now (terms .exit) ≡ padded (length (now (terms .entry))) (take from (now (terms .entry))) ⌝ }
 {
     let mut i = from;
-    while i < t.len() {
-        t[i] = 0;
+    while i < terms.len() {
+        terms[i] = 0;
         i += 1;
     }
 }
 
 // How many names a text holds.
-fn count_names(text: &[u8]) -> usize
+pub fn count_names(text: &[u8]) -> usize
     ensures { λ r. ⌜ r ≡ length (namesIn (now (text .entry))) ⌝ }
 {
     let mut rest = text;
@@ -126,11 +157,11 @@ fn lawful_name(x: usize, names: usize, text: &[u8]) -> bool
     requires { ⌜ names ≡ length (namesIn (now text)) ⌝ }
     ensures { λ r. ⌜ r ≡ lawfulName (namesIn (now (text .entry))) x ⌝ }
 {
-    if x < ASSUMED {
+    if x < identifier_generator::GENERATED {
         return x < names;
     }
-    let g = x - ASSUMED;
-    if LAST_INDEX < g {
+    let g = x - identifier_generator::GENERATED;
+    if identifier_generator::LAST_INDEX < g {
         return false;
     }
     !identifier_generator::spelled_like(text, g)
@@ -139,7 +170,7 @@ fn lawful_name(x: usize, names: usize, text: &[u8]) -> bool
 // Whether number `at` may stand in such a field of node i, over `count` formulas.
 fn lawful_field(
     field: Field,
-    t: &[u16],
+    terms: &[u16],
     at: usize,
     i: usize,
     count: usize,
@@ -147,9 +178,9 @@ fn lawful_field(
     text: &[u8],
 ) -> bool
     requires { ⌜ names ≡ length (namesIn (now text)) ⌝ }
-    ensures { λ r. ⌜ r ≡ lawfulField (namesIn (now (text .entry))) count i (fieldAs field) (getD (now (t .entry)) at 0) ⌝ }
+    ensures { λ r. ⌜ r ≡ lawfulField (namesIn (now (text .entry))) count i (fieldAs field) (getD (now (terms .entry)) at 0) ⌝ }
 {
-    let x = number(t, at);
+    let x = number(terms, at);
     match field {
         Name => lawful_name(x, names, text),
         Child => x < i,
@@ -159,40 +190,19 @@ fn lawful_field(
 }
 
 // Whether node i keeps the layout.
-fn lawful_node(t: &[u16], i: usize, count: usize, names: usize, text: &[u8]) -> bool
-    requires { ⌜ names ≡ length (namesIn (now text)) ⌝ }
-    requires { ⌜ i * nodeWidth < length (now t) ⌝ }
-    ensures { λ r. ⌜ r ≡ lawfulNode (namesIn (now (text .entry))) count (now (t .entry)) i ⌝ }
+pub fn lawful_node(terms: &[u16], i: usize, count: usize, names: usize, text: &[u8]) -> bool
+    requires counted { ⌜ names ≡ length (namesIn (now text)) ⌝ }
+    requires inside { ⌜ i * nodeWidth < length (now terms) ⌝ }
+    ensures { λ r. ⌜ r ≡ lawfulNode (namesIn (now (text .entry))) count (now (terms .entry)) i ⌝ }
 {
     let at = i * WIDTH;
-    let Fields::Held(a, b, c, d, e) = fields_of(number(t, at)) else {
+    let Fields::Held(a, b, c, d, e) = fields_of(number(terms, at)) else {
         return false;
     };
-    let first = lawful_field(a, t, at + 1, i, count, names, text);
-    let second = lawful_field(b, t, at + 2, i, count, names, text);
-    let third = lawful_field(c, t, at + 3, i, count, names, text);
-    let fourth = lawful_field(d, t, at + 4, i, count, names, text);
-    let fifth = lawful_field(e, t, at + 5, i, count, names, text);
+    let first = lawful_field(a, terms, at + 1, i, count, names, text);
+    let second = lawful_field(b, terms, at + 2, i, count, names, text);
+    let third = lawful_field(c, terms, at + 3, i, count, names, text);
+    let fourth = lawful_field(d, terms, at + 4, i, count, names, text);
+    let fifth = lawful_field(e, terms, at + 5, i, count, names, text);
     first & second & third & fourth & fifth
-}
-
-// The lowest of the given nodes that breaks the layout, or the node count for a root not below it. Names are judged by the assumptions'
-// text. For callers that have tested the sizes, as refusal 1 comes before.
-pub fn bad_term(t: &[u16], nodes: usize, root: usize, count: usize, text: &[u8]) -> Place
-    requires { ⌜ nodes * nodeWidth ≤ length (now t) ⌝ }
-    ensures { λ r. ⌜ placeOf r ≡ badTerm (namesIn (now (text .entry))) count (now (t .entry)) nodes root ⌝ }
-{
-    let names = count_names(text);
-    let mut i = 0;
-    while i < nodes {
-        if lawful_node(t, i, count, names, text) {
-            i += 1;
-        } else {
-            return Place::At(i);
-        }
-    }
-    if root < nodes {
-        return Place::Nowhere;
-    }
-    Place::At(nodes)
 }

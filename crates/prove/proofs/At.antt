@@ -7,19 +7,19 @@ use lib.Dec.{T, eqb}
 use borrow.Author.Tests.{eqb-true, eqb-false}
 use Rattle.theory.specs.World.{Seen}
 use Rattle.theory.specs.Meter as M
-use Rattle.context.specs.declared.State.{State}
-use Rattle.context.specs.declared.Sequent.{Sequent}
-use Rattle.context.specs.declared.Limits.{Limits}
-use Rattle.context.specs.declared.Answer.{Answer}
-use Rattle.representation.specs.Reading.{Lent, kindAt, Shows}
-use Rattle.representation.specs.Keeping.{Rep}
-use Rattle.representation.specs.Meaning.{Meets}
-use Rattle.representation.specs.Trying.{Next, trying, TriesAt}
-use Rattle.representation.specs.Records.{formulaOf, premiseOf}
-use Rattle.representation.proofs.Four.{skips-other, skips-flat}
-use Rattle.rules.specs.Last.{nested}
-use Rattle.premises.specs.Prepared.{Nested}
-use Rattle.premises.specs.Asked.{FirstOf}
+use Rattle.meter.specs.declared.State.{State}
+use Rattle.meter.specs.declared.Sequent.{Sequent}
+use Rattle.meter.specs.declared.Limits.{Limits}
+use Rattle.meter.specs.declared.Answer.{Answer}
+use Rattle.search_laws.specs.Reading.{Lent, kindAt, Shows}
+use Rattle.search_laws.specs.Keeping.{Rep}
+use Rattle.search_laws.specs.Meaning.{Meets}
+use Rattle.search_laws.specs.Trying.{Next, trying, TriesAt}
+use Rattle.search_laws.specs.Records.{formulaOf, premiseOf}
+use Rattle.search_laws.proofs.Four.{skips-other, skips-flat}
+use Rattle.search_left.specs.Last.{nested}
+use Rattle.search_premises.specs.Prepared.{Nested}
+use Rattle.search_premises.specs.Asked.{FirstOf}
 
 pub meets-at : {j : M.Judgement} {m : Limits} {taken : List (List ℕ)} {x y : Lent} {s : State} {q : Sequent} {r r1 : Answer} → r ≡ r1 →
     Meets j m taken x s q r y → Meets j m taken x s q r1 y

@@ -16,8 +16,8 @@ enum Input {
 // Reads once, into the buffer from `done` on, and leaves what was read before; 0 bytes are the end of the input.
 fn read_more(fd: i32, buf: &mut [u8], done: usize) -> Input
     requires { ⌜ done ≤ length (now buf) ⌝ }
-    ensures { λ r. ⌜ Behind done r (now (buf .exit)) ⌝ }
-    ensures { λ _. ⌜ take done (now (buf .exit)) ≡ take done (now (buf .entry)) ⌝ }
+    ensures behind { λ r. ⌜ Behind done r (now (buf .exit)) ⌝ }
+    ensures kept { λ _. ⌜ take done (now (buf .exit)) ≡ take done (now (buf .entry)) ⌝ }
 {
     let got = libc::read(fd, &mut buf[done..]);
     if got < 0 {

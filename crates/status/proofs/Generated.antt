@@ -2,7 +2,7 @@
 pub mod mark_parts
 pub mod marked_open
 pub mod open_goal
-pub mod search
+pub mod search_goal
 pub mod search_negation
 pub mod unproved
 pub mod solvable_status

@@ -14,7 +14,7 @@ use Rattle.theory.specs.Form.{Shape, isTop, isBot, isLeaf, isAnd, isOr, isImp, 
 use Rattle.theory.specs.Form.{Below, Good}
 use Rattle.theory.specs.Status.{openForm}
 use Rattle.theory.proofs.Forms.{form-at, good-from}
-use Rattle.context.specs.Area.{Rec, none, zeroed, formulaAt}
+use Rattle.context.specs.Area.{Rec, zeroed, formulaAt}
 use Rattle.status.specs.Marks.{openByItself, mark, partsMarked, openHere, someOpen}
 
 -- the order of three tests does not matter, nor that one is asked twice
@@ -53,7 +53,7 @@ module _ (b : Book) where
   unfolding someOpen openHere
   mark-above w l zero h = refl
   mark-above w l (suc n) h = ap₂ (λ (x : Rec) (o : Bool). (not (eqb (x .formula) 0) && isOpen n) || o)
-      (getD-set-other w l n mark none (λ e. omega arith)) (mark-above w l n (omega arith))
+      (getD-set-other w l n mark zeroed (λ e. omega arith)) (mark-above w l n (omega arith))
 
   -- a mark below n asks for its formula too
   mark-below : (w : List Rec) (l n : ℕ) → l < n → n ≤ length w → someOpen b (set w l mark) n ≡ isOpen l || someOpen b w n
@@ -68,12 +68,12 @@ module _ (b : Book) where
           subst (λ (i : ℕ). openHere b (set w i mark) n || someOpen b (set w i mark) n ≡ isOpen i || (openHere b w n || someOpen b w n))
           (sym p)
           (ap₂ (λ (x : Rec) (o : Bool). (not (eqb (x .formula) 0) && isOpen n) || o)
-          (getD-set-same w n mark none (omega arith)) (mark-above w n n (omega arith))
+          (getD-set-same w n mark zeroed (omega arith)) (mark-above w n n (omega arith))
           ∙ asked-twice (not (eqb (formulaAt w n) 0)) (isOpen n) (someOpen b w n))
       go false e ih =
           let q : ¬ (l ≡ n) = eqb-false l n e in
           ap₂ (λ (x : Rec) (o : Bool). (not (eqb (x .formula) 0) && isOpen n) || o)
-          (getD-set-other w l n mark none (λ p. q (sym p))) (ih (omega arith))
+          (getD-set-other w l n mark zeroed (λ p. q (sym p))) (ih (omega arith))
           ∙ swapped (openHere b w n) (isOpen l) (someOpen b w n)
 
   -- a formula that is not marked is passed over
@@ -131,7 +131,7 @@ module _ (b : Book) where
         (subst (Below n) is (subst (λ (i : ℕ). Below i (look b n)) (zero-add n) (good-from b 0 g n inside))) o
         ∙ counts
 
-  -- with no record marked, none is open
+  -- with no record marked, zeroed is open
   none-open : (k n : ℕ) → someOpen b (replicate k zeroed) n ≡ false
   unfolding someOpen openHere
   none-open k zero = refl

@@ -19,10 +19,10 @@ use Rattle.theory.specs.Status.{openForm, settled, refuted, Inquiry, firstClaim
 use Rattle.theory.proofs.Passing.{passes}
 use Rattle.theory.proofs.CallClaims.{given-kept, records-zero, second-passes}
 use Rattle.context.specs.Area.{Rec, zeroed}
-use Rattle.claim.specs.declared.Outcome.{Outcome}
-use Rattle.claim.specs.Outcomes.{outcomeOf}
-use Rattle.claim.specs.Lent.{claimOf}
-use Rattle.claim.specs.Whole.{Called}
+use Rattle.call.specs.declared.Outcome.{Outcome}
+use Rattle.call.specs.Outcomes.{outcomeOf}
+use Rattle.call.specs.Lent.{claimOf}
+use Rattle.call.specs.Whole.{Called}
 use Rattle.status.specs.declared.Status.{Status}
 use Rattle.status.specs.declared.Status.the-variants.{Unsolvable, Unknown}
 use Rattle.status.specs.Answers.{statusOf, refutedAs}

@@ -15,11 +15,11 @@ use Rattle.theory.proofs.StatusCalls.{asked-status, asked-refused, asked-cleane
 use Rattle.theory.proofs.Called.{Told, t-proved, t-unprovable, t-shortage, t-refused, told}
 use Rattle.theory.proofs.CallClaims.{lengths-kept, given-kept, records-zero, records-kept}
 use Rattle.context.specs.Area.{Rec, zeroed}
-use Rattle.claim.specs.declared.Outcome.{Outcome}
-use Rattle.claim.specs.declared.Outcome.the-variants.{Proved, Unprovable, Short as Lacks, Refused as Rejects}
-use Rattle.claim.specs.Outcomes.{outcomeOf}
-use Rattle.claim.specs.Lent.{claimOf}
-use Rattle.claim.specs.Whole.{Called}
+use Rattle.call.specs.declared.Outcome.{Outcome}
+use Rattle.call.specs.declared.Outcome.the-variants.{Proved, Unprovable, Short as Lacks, Refused as Rejects}
+use Rattle.call.specs.Outcomes.{outcomeOf}
+use Rattle.call.specs.Lent.{claimOf}
+use Rattle.call.specs.Whole.{Called}
 use Rattle.status.specs.declared.Status.{Status}
 use Rattle.status.specs.declared.Status.the-variants.{Solvable, Unsolvable, Unknown, Short, Refused}
 use Rattle.status.specs.Answers.{statusOf, numbersOf}

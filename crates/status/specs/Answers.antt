@@ -3,8 +3,8 @@ use Rattle.theory.specs.Refusal.{faultNumber, lackNumber}
 use Rattle.theory.specs.Call.{Numbers}
 use Rattle.theory.specs.Status as S
 use Rattle.theory.specs.Status.{settled, ranShort, rejected}
-use Rattle.claim.specs.declared.Outcome.{Outcome}
-use Rattle.claim.specs.declared.Outcome.the-variants.{Proved, Unprovable, Short as Lacks, Refused as Rejects}
+use Rattle.call.specs.declared.Outcome.{Outcome}
+use Rattle.call.specs.declared.Outcome.the-variants.{Proved, Unprovable, Short as Lacks, Refused as Rejects}
 use Rattle.status.specs.declared.Status.{Status}
 use Rattle.status.specs.declared.Status.the-variants.{Solvable, Unsolvable, Unknown, Short, Refused}
 

@@ -10,12 +10,12 @@ ghost use Rattle.theory.specs.NameText.{padded};
 ghost use Rattle.theory.specs.Call.{refusal};
 ghost use Rattle.theory.specs.Status.{openForm, refuted, firstClaim, secondOutcome};
 ghost use Rattle.context.specs.Area.{zeroed};
-ghost use Rattle.claim.specs.Lent.{claimOf};
-ghost use Rattle.claim.specs.Whole.{Called};
+ghost use Rattle.call.specs.Lent.{claimOf};
+ghost use Rattle.call.specs.Whole.{Called};
 ghost use Rattle.status.specs.Marks.{openByItself, partsMarked, someOpen};
 ghost use Rattle.status.specs.Answers.{statusOf, refutedAs};
 ghost use Rattle.status.specs.Whole.{inquiryOf, failedStatus, Answered};
-use claim::Outcome;
+use call::Outcome;
 use context::Record;
 
 // Symbols from here up carry free parameters.
@@ -35,58 +35,58 @@ fn open_leaf(word: u32) -> bool
     ensures { λ r. ⌜ r ≡ openByItself (shape word) ⌝ }
 {
     let kind = formula::kind_of(word);
-    if kind == 2 {
+    if kind == formula::ATOM {
         return FIRST_FREE <= formula::left_of(word);
     }
-    5 < kind
+    formula::IMPL < kind
 }
 
 // Both parts of formula i are marked, if it has parts.
-fn mark_parts(f: &[u32], w: &mut [Record], i: usize)
-    ensures { λ _. ⌜ now (w .exit) ≡ partsMarked (shape (getD (now (f .entry)) i 0)) (now (w .entry)) ⌝ }
+fn mark_parts(words: &[u32], work: &mut [Record], i: usize)
+    ensures { λ _. ⌜ now (work .exit) ≡ partsMarked (shape (getD (now (words .entry)) i 0)) (now (work .entry)) ⌝ }
 {
-    let kind = formula::kind(f, i);
-    if kind < 3 {
+    let kind = formula::kind(words, i);
+    if kind < formula::AND {
         return;
     }
-    if 5 < kind {
+    if formula::IMPL < kind {
         return;
     }
-    context::put(w, formula::left(f, i), 1, 0);
-    context::put(w, formula::right(f, i), 1, 0);
+    context::put(work, formula::left(words, i), 1, 0);
+    context::put(work, formula::right(words, i), 1, 0);
 }
 
 // Whether one of the marked formulas below `from` is open. It marks their parts on its way down, so that a formula is looked at once,
 // however often it occurs.
-fn marked_open(f: &[u32], w: &mut [Record], count: usize, from: usize) -> bool
-    requires { ⌜ (from ≤ count) × (count ≤ length (now f)) × (count ≤ length (now w)) ⌝ }
-    requires { ⌜ Good (map shape (take count (now f))) ⌝ }
-    ensures { λ r. ⌜ r ≡ someOpen (map shape (take count (now (f .entry)))) (now (w .entry)) from ⌝ }
+fn marked_open(words: &[u32], work: &mut [Record], count: usize, from: usize) -> bool
+    requires sizes { ⌜ (from ≤ count) × (count ≤ length (now words)) × (count ≤ length (now work)) ⌝ }
+    requires good { ⌜ Good (map shape (take count (now words))) ⌝ }
+    ensures { λ r. ⌜ r ≡ someOpen (map shape (take count (now (words .entry)))) (now (work .entry)) from ⌝ }
 {
     let mut i = from;
     while 0 < i {
         i -= 1;
-        if context::formula_at(w, i) != 0 {
-            if open_leaf(formula::word(f, i)) {
+        if context::formula_at(work, i) != 0 {
+            if open_leaf(formula::word(words, i)) {
                 return true;
             }
-            mark_parts(f, w, i);
+            mark_parts(words, work, i);
         }
     }
     false
 }
 
 // Whether a ForAll, an Exists or a free symbol occurs in the goal. The work area, all zero, holds the marks and is cleared again.
-fn open_goal(f: &[u32], w: &mut [Record], count: usize, goal: usize) -> bool
-    requires { ⌜ (goal < count) × (count ≤ length (now f)) × (count ≤ length (now w)) ⌝ }
-    requires { ⌜ Good (map shape (take count (now f))) ⌝ }
-    requires { ⌜ now w ≡ replicate (length (now w)) zeroed ⌝ }
-    ensures { λ r. ⌜ r ≡ openForm (form (map shape (take count (now (f .entry)))) goal) ⌝ }
-    ensures { λ _. ⌜ now (w .exit) ≡ replicate (length (now (w .entry))) zeroed ⌝ }
+fn open_goal(words: &[u32], work: &mut [Record], count: usize, goal: usize) -> bool
+    requires sizes { ⌜ (goal < count) × (count ≤ length (now words)) × (count ≤ length (now work)) ⌝ }
+    requires good { ⌜ Good (map shape (take count (now words))) ⌝ }
+    requires work { ⌜ now work ≡ replicate (length (now work)) zeroed ⌝ }
+    ensures result { λ r. ⌜ r ≡ openForm (form (map shape (take count (now (words .entry)))) goal) ⌝ }
+    ensures work { λ _. ⌜ now (work .exit) ≡ replicate (length (now (work .entry))) zeroed ⌝ }
 {
-    context::put(w, goal, 1, 0);
-    let answer = marked_open(f, w, count, goal + 1);
-    context::clear(w);
+    context::put(work, goal, 1, 0);
+    let answer = marked_open(words, work, count, goal + 1);
+    context::clear(work);
     answer
 }
 
@@ -120,90 +120,90 @@ fn refuted(second: Outcome) -> Status
 }
 
 // Added words and term nodes become zero.
-fn clean(f: &mut [u32], t: &mut [u16], count: usize)
-    ensures { λ _. ⌜ now (f .exit) ≡ padded (length (now (f .entry))) (take count (now (f .entry))) ⌝ }
-    ensures { λ _. ⌜ now (t .exit) ≡ replicate (length (now (t .entry))) 0 ⌝ }
+fn clean(words: &mut [u32], terms: &mut [u16], count: usize)
+    ensures words { λ _. ⌜ now (words .exit) ≡ padded (length (now (words .entry))) (take count (now (words .entry))) ⌝ }
+    ensures terms { λ _. ⌜ now (terms .exit) ≡ replicate (length (now (terms .entry))) 0 ⌝ }
 {
-    formula::clear(f, count);
-    proof_term::clear(t, 0);
+    formula::clear(words, count);
+    proof_term::clear(terms, 0);
 }
 
 // The search of a goal without assumptions.
-fn search(
-    f: &mut [u32],
+fn search_goal(
+    words: &mut [u32],
     count: usize,
     goal: usize,
-    t: &mut [u16],
-    w: &mut [Record],
+    terms: &mut [u16],
+    work: &mut [Record],
     steps: usize,
 ) -> Outcome
-    ensures { λ r. ⌜ Called (claimOf (now (f .entry)) count [] [] goal (now (t .entry)) (length (now (w .entry))) steps) (now (w .entry)) r
-        (now (f .exit)) (now (t .exit)) (now (w .exit)) ⌝ }
+    ensures { λ r. ⌜ Called (claimOf (now (words .entry)) count [] [] goal (now (terms .entry)) (length (now (work .entry))) steps)
+        (now (work .entry)) r (now (words .exit)) (now (terms .exit)) (now (work .exit)) ⌝ }
 {
     let assumed: [u16; 0] = [];
     let names: [u8; 0] = [];
-    prove::prove(f, count, &assumed, &names, goal, t, w, steps)
+    prove::prove(words, count, &assumed, &names, goal, terms, work, steps)
 }
 
 // False and goal→False are appended, where there is room for them, and the second is searched for.
 fn search_negation(
-    f: &mut [u32],
+    words: &mut [u32],
     count: usize,
     goal: usize,
-    t: &mut [u16],
-    w: &mut [Record],
+    terms: &mut [u16],
+    work: &mut [Record],
     steps: usize,
 ) -> Status
-    requires { ⌜ refusal (firstClaim (inquiryOf (now f) count goal (now t) (length (now w)) steps)) ≡ none ⌝ }
-    requires { ⌜ now w ≡ replicate (length (now w)) zeroed ⌝ }
-    ensures { λ r. ⌜ r ≡ statusOf (refuted (secondOutcome
-        (inquiryOf (now (f .entry)) count goal (now (t .entry)) (length (now (w .entry))) steps))) ⌝ }
-    ensures { λ _. ⌜ take count (now (f .exit)) ≡ take count (now (f .entry)) ⌝ }
-    ensures { λ _. ⌜ now (w .exit) ≡ replicate (length (now (w .entry))) zeroed ⌝ }
+    requires passed { ⌜ refusal (firstClaim (inquiryOf (now words) count goal (now terms) (length (now work)) steps)) ≡ none ⌝ }
+    requires work { ⌜ now work ≡ replicate (length (now work)) zeroed ⌝ }
+    ensures result { λ r. ⌜ r ≡ statusOf (refuted (secondOutcome
+        (inquiryOf (now (words .entry)) count goal (now (terms .entry)) (length (now (work .entry))) steps))) ⌝ }
+    ensures kept { λ _. ⌜ take count (now (words .exit)) ≡ take count (now (words .entry)) ⌝ }
+    ensures work { λ _. ⌜ now (work .exit) ≡ replicate (length (now (work .entry))) zeroed ⌝ }
 {
-    if f.len() < count + 2 {
+    if words.len() < count + 2 {
         return Status::Unknown;
     }
-    formula::store(f, count, formula::pack(1, 0, 0));
-    formula::store(f, count + 1, formula::pack(5, goal, count));
-    refuted(search(f, count + 2, count + 1, t, w, steps))
+    formula::store(words, count, formula::pack(formula::FALSE, 0, 0));
+    formula::store(words, count + 1, formula::pack(formula::IMPL, goal, count));
+    refuted(search_goal(words, count + 2, count + 1, terms, work, steps))
 }
 
 // The status of a goal that has no proof: closed, it has none; open, its negation tells.
 fn unproved(
-    f: &mut [u32],
+    words: &mut [u32],
     count: usize,
     goal: usize,
-    t: &mut [u16],
-    w: &mut [Record],
+    terms: &mut [u16],
+    work: &mut [Record],
     steps: usize,
 ) -> Status
-    requires { ⌜ refusal (firstClaim (inquiryOf (now f) count goal (now t) (length (now w)) steps)) ≡ none ⌝ }
-    requires { ⌜ now w ≡ replicate (length (now w)) zeroed ⌝ }
-    ensures { λ r. ⌜ r ≡ statusOf (failedStatus
-        (inquiryOf (now (f .entry)) count goal (now (t .entry)) (length (now (w .entry))) steps)) ⌝ }
-    ensures { λ _. ⌜ take count (now (f .exit)) ≡ take count (now (f .entry)) ⌝ }
-    ensures { λ _. ⌜ now (w .exit) ≡ replicate (length (now (w .entry))) zeroed ⌝ }
+    requires passed { ⌜ refusal (firstClaim (inquiryOf (now words) count goal (now terms) (length (now work)) steps)) ≡ none ⌝ }
+    requires work { ⌜ now work ≡ replicate (length (now work)) zeroed ⌝ }
+    ensures result { λ r. ⌜ r ≡ statusOf (failedStatus
+        (inquiryOf (now (words .entry)) count goal (now (terms .entry)) (length (now (work .entry))) steps)) ⌝ }
+    ensures kept { λ _. ⌜ take count (now (words .exit)) ≡ take count (now (words .entry)) ⌝ }
+    ensures work { λ _. ⌜ now (work .exit) ≡ replicate (length (now (work .entry))) zeroed ⌝ }
 {
-    if open_goal(f, w, count, goal) {
-        return search_negation(f, count, goal, t, w, steps);
+    if open_goal(words, work, count, goal) {
+        return search_negation(words, count, goal, terms, work, steps);
     }
     Status::Unsolvable
 }
 
 // The status of the goal.
 pub fn solvable_status(
-    f: &mut [u32],
+    words: &mut [u32],
     count: usize,
     goal: usize,
-    t: &mut [u16],
-    w: &mut [Record],
+    terms: &mut [u16],
+    work: &mut [Record],
     steps: usize,
 ) -> Status
-    ensures { λ r. ⌜ Answered (inquiryOf (now (f .entry)) count goal (now (t .entry)) (length (now (w .entry))) steps) (now (w .entry)) r
-        (now (f .exit)) (now (t .exit)) (now (w .exit)) ⌝ }
+    ensures { λ r. ⌜ Answered (inquiryOf (now (words .entry)) count goal (now (terms .entry)) (length (now (work .entry))) steps)
+        (now (work .entry)) r (now (words .exit)) (now (terms .exit)) (now (work .exit)) ⌝ }
 {
-    match search(f, count, goal, t, w, steps) {
+    match search_goal(words, count, goal, terms, work, steps) {
         Outcome::Proved {
             root: _,
             steps: _,
@@ -211,7 +211,7 @@ pub fn solvable_status(
             formulas: _,
             terms: _,
         } => {
-            clean(f, t, count);
+            clean(words, terms, count);
             Status::Solvable
         }
         Outcome::Unprovable {
@@ -220,8 +220,8 @@ pub fn solvable_status(
             formulas: _,
             terms: _,
         } => {
-            let status = unproved(f, count, goal, t, w, steps);
-            clean(f, t, count);
+            let status = unproved(words, count, goal, terms, work, steps);
+            clean(words, terms, count);
             status
         }
         Outcome::Short { number, steps } => Status::Short { number, steps },

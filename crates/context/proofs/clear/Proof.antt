@@ -19,7 +19,7 @@ abbrev μ-loop : tie.MeasureT-loop
 μ-loop w₀ i₀ w i = length w₀ - i
 
 loop-holds : tie.Need-loop-holds Inv-loop μ-loop
-loop-holds c = (omega arith, clearing-starts zeroed (now (c .args .w)) 0)
+loop-holds c = (omega arith, clearing-starts zeroed (now (c .args .work)) 0)
 
 write-requires : tie.Need-write-requires Inv-loop μ-loop
 write-requires c κs = search needs
@@ -33,7 +33,7 @@ loop-less c = omega arith
 loop-again : tie.Need-loop-again Inv-loop μ-loop
 loop-again c =
     let at = c .before .before .before .before in
-    let w₀ = now (at .before .args .w) in
+    let w₀ = now (at .before .args .work) in
     let more = clearing-goes zeroed w₀ 0 (at .loop .inv .1) (omega arith) in
     let written = subst (λ (v : List Rec). Clearing zeroed w₀ 0 (at .loop .i + 1) v) (sym (c .before .write .ensures)) more in
     (omega (arith, at .loop .inv .1 .long), written)
@@ -44,8 +44,8 @@ same-length c = c .before .loop .inv .1 .long
 returns : tie.Need-returns Inv-loop μ-loop
 returns c =
     let at = c .before in
-    let all : length (now (at .before .args .w)) - 0 ≡ length (now (at .before .args .w)) = omega arith in
-    clearing-ends zeroed (now (at .before .args .w)) 0 (at .loop .inv .1) (omega (arith, at .loop .inv .1 .long)) (at .loop .inv .0)
+    let all : length (now (at .before .args .work)) - 0 ≡ length (now (at .before .args .work)) = omega arith in
+    clearing-ends zeroed (now (at .before .args .work)) 0 (at .loop .inv .1) (omega (arith, at .loop .inv .1 .long)) (at .loop .inv .0)
     ∙ ap (λ (n : ℕ). replicate n zeroed) all
 
 pub clear-spec : {M : Type 1} → statement M

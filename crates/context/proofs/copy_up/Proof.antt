@@ -29,7 +29,7 @@ same-length c = search needs
 returns : tie.Need-returns
 unfolding raised
 returns c =
-    let q = c .before .before .before .before .before .before .before .before .args .q in
+    let q = c .before .before .before .before .before .before .before .before .args .sequent in
     c .before .copy-run2 .ensures ∙ ap (copies (q .ordered) (q .level * stretch + stretch - q .ordered))
     (c .before .before .before .before .before .copy-run .ensures)
 

@@ -17,13 +17,13 @@ abbrev μ-loop : tie.MeasureT-loop
 μ-loop f₀ from i₀ f i = length f₀ - i
 
 loop-holds : tie.Need-loop-holds Inv-loop μ-loop
-loop-holds c = (inr refl, clearing-starts 0 (now (c .args .f)) (c .args .from))
+loop-holds c = (inr refl, clearing-starts 0 (now (c .args .words)) (c .args .from))
 
-mul-f : tie.Need-mul-f Inv-loop μ-loop
-mul-f c = search needs
+mul-words : tie.Need-mul-words Inv-loop μ-loop
+mul-words c = search needs
 
-slice-write-f : tie.Need-slice-write-f Inv-loop μ-loop
-slice-write-f c = search needs
+slice-write-words : tie.Need-slice-write-words Inv-loop μ-loop
+slice-write-words c = search needs
 
 add-i : tie.Need-add-i Inv-loop μ-loop
 add-i c = search needs
@@ -35,7 +35,7 @@ loop-again : tie.Need-loop-again Inv-loop μ-loop
 loop-again c =
     let at = c .before in
     let a = at .before .args in
-    (inl (omega (arith, at .loop .inv .1 .long)), clearing-goes 0 (now (a .f)) (a .from) (at .loop .inv .1) (omega arith))
+    (inl (omega (arith, at .loop .inv .1 .long)), clearing-goes 0 (now (a .words)) (a .from) (at .loop .inv .1) (omega arith))
 
 same-length : tie.Need-same-length Inv-loop μ-loop
 same-length c = c .before .loop .inv .1 .long
@@ -44,8 +44,8 @@ returns : tie.Need-returns Inv-loop μ-loop
 returns c =
     let at = c .before in
     let a = at .before .args in
-    clearing-done 0 (now (a .f)) (a .from) (at .loop .inv .1) (omega (arith, at .loop .inv .1 .long)) (at .loop .inv .0)
-    ∙ padded-take (now (a .f)) (a .from)
+    clearing-done 0 (now (a .words)) (a .from) (at .loop .inv .1) (omega (arith, at .loop .inv .1 .long)) (at .loop .inv .0)
+    ∙ padded-take (now (a .words)) (a .from)
 
 pub clear-spec : {M : Type 1} → statement M
-clear-spec = tie.close (tie.spec Inv-loop μ-loop loop-holds mul-f slice-write-f add-i loop-less loop-again same-length returns)
+clear-spec = tie.close (tie.spec Inv-loop μ-loop loop-holds mul-words slice-write-words add-i loop-less loop-again same-length returns)

@@ -6,10 +6,10 @@ use Rattle.formula.proofs.kind_of.Statement.{statement}
 use Rattle.formula.proofs.kind_of.Tie as tie
 
 cast-result : tie.Need-cast-result
-cast-result c = record { fits = le-trans (mask-lt (c .args .w) 4) (lit≤ tt) }
+cast-result c = record { fits = le-trans (mask-lt (c .args .packed) 4) (lit≤ tt) }
 
 returns : tie.Need-returns
-returns c = and-mask (c .args .w) 4
+returns c = and-mask (c .args .packed) 4
 
 pub kind-of-spec : {M : Type 1} → statement M
 kind-of-spec = tie.close (tie.spec cast-result returns)

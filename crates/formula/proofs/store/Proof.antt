@@ -5,11 +5,11 @@ use lib.Seq.{set-out}
 use Rattle.formula.proofs.store.Statement.{statement}
 use Rattle.formula.proofs.store.Tie as tie
 
-mul-f : tie.Need-mul-f
-mul-f c = search needs
+mul-words : tie.Need-mul-words
+mul-words c = search needs
 
-slice-write-f : tie.Need-slice-write-f
-slice-write-f c = search needs
+slice-write-words : tie.Need-slice-write-words
+slice-write-words c = search needs
 
 same-length : tie.Need-same-length
 same-length c = search needs
@@ -21,4 +21,4 @@ returns-2 : tie.Need-returns-2
 returns-2 c = sym (set-out _ _ _ (c .if1 .left))
 
 pub store-spec : {M : Type 1} → statement M
-store-spec = tie.close (tie.spec mul-f slice-write-f same-length returns returns-2)
+store-spec = tie.close (tie.spec mul-words slice-write-words same-length returns returns-2)

@@ -6,7 +6,7 @@ use mathlib.Core.List.{List}
 use lib.ListN.{length}
 use denote.Ref.{now}
 use Rattle.theory.specs.NameText.{padded}
-use Rattle.claim.specs.declared.Outcome.{Outcome}
+use Rattle.call.specs.declared.Outcome.{Outcome}
 use Rattle.house_file.specs.Output.{linesFor, Printables}
 use Rattle.house_file.proofs.answer_lines.Statement.{statement}
 use Rattle.house_file.proofs.answer_lines.Tie as tie
@@ -20,7 +20,7 @@ proved-lines-requires c κs =
     let start = c .before .before .before .before .before .before .before .before in
     let is = c .before .before .outcome .given .1 in (
       subst Printables is (start .pre .0),
-      subst (λ (o : Outcome). length (linesFor o (now (start .args .f)) (now (start .args .t)) (start .args .assumptions)
+      subst (λ (o : Outcome). length (linesFor o (now (start .args .words)) (now (start .args .terms)) (start .args .assumptions)
           (now (start .args .names))) ≤ length (now (start .args .out))) is (start .pre .1),
     )
 
@@ -33,7 +33,7 @@ unprovable-requires c κs =
     let start = c .before .before .before .before .before .before .before .before in
     let is = c .before .before .outcome2 .given .1 in (
       subst Printables is (start .pre .0),
-      subst (λ (o : Outcome). length (linesFor o (now (start .args .f)) (now (start .args .t)) (start .args .assumptions)
+      subst (λ (o : Outcome). length (linesFor o (now (start .args .words)) (now (start .args .terms)) (start .args .assumptions)
           (now (start .args .names))) ≤ length (now (start .args .out))) is (start .pre .1),
     )
 
@@ -46,7 +46,7 @@ refused-requires c κs =
     let start = c .before .before .before .before .before .before .before .before in
     let is = c .before .before .outcome3 .given .1 in (
       subst Printables is (start .pre .0),
-      subst (λ (o : Outcome). length (linesFor o (now (start .args .f)) (now (start .args .t)) (start .args .assumptions)
+      subst (λ (o : Outcome). length (linesFor o (now (start .args .words)) (now (start .args .terms)) (start .args .assumptions)
           (now (start .args .names))) ≤ length (now (start .args .out))) is (start .pre .1),
     )
 
@@ -59,7 +59,7 @@ refused-requires-2 c κs =
     let start = c .before .before .before .before .before .before .before .before in
     let is = c .before .before .outcome4 .given .1 in (
       subst Printables is (start .pre .0),
-      subst (λ (o : Outcome). length (linesFor o (now (start .args .f)) (now (start .args .t)) (start .args .assumptions)
+      subst (λ (o : Outcome). length (linesFor o (now (start .args .words)) (now (start .args .terms)) (start .args .assumptions)
           (now (start .args .names))) ≤ length (now (start .args .out))) is (start .pre .1),
     )
 
@@ -72,7 +72,7 @@ returns c =
     let args = c .before .before .before .before .before .before .before .before .before .before .before .args in
     let is = c .before .before .before .before .before .outcome .given .1 in
     let lines : Outcome → List ℕ =
-    λ o. linesFor o (now (args .f)) (now (args .t)) (args .assumptions) (now (args .names)) in (
+    λ o. linesFor o (now (args .words)) (now (args .terms)) (args .assumptions) (now (args .names)) in (
       c .before .before .proved-lines .ensures .0 ∙ ap (λ (o : Outcome). padded (length (now (args .out))) (lines o)) (sym is),
       c .before .before .proved-lines .ensures .1 ∙ ap (λ (o : Outcome). length (lines o)) (sym is),
     )
@@ -86,7 +86,7 @@ returns-2 c =
     let args = c .before .before .before .before .before .before .before .before .before .before .before .args in
     let is = c .before .before .before .before .before .outcome2 .given .1 in
     let lines : Outcome → List ℕ =
-    λ o. linesFor o (now (args .f)) (now (args .t)) (args .assumptions) (now (args .names)) in (
+    λ o. linesFor o (now (args .words)) (now (args .terms)) (args .assumptions) (now (args .names)) in (
       c .before .before .unprovable .ensures .0 ∙ ap (λ (o : Outcome). padded (length (now (args .out))) (lines o)) (sym is),
       c .before .before .unprovable .ensures .1 ∙ ap (λ (o : Outcome). length (lines o)) (sym is),
     )
@@ -100,7 +100,7 @@ returns-3 c =
     let args = c .before .before .before .before .before .before .before .before .before .before .before .args in
     let is = c .before .before .before .before .before .outcome3 .given .1 in
     let lines : Outcome → List ℕ =
-    λ o. linesFor o (now (args .f)) (now (args .t)) (args .assumptions) (now (args .names)) in (
+    λ o. linesFor o (now (args .words)) (now (args .terms)) (args .assumptions) (now (args .names)) in (
       c .before .before .refused .ensures .0 ∙ ap (λ (o : Outcome). padded (length (now (args .out))) (lines o)) (sym is),
       c .before .before .refused .ensures .1 ∙ ap (λ (o : Outcome). length (lines o)) (sym is),
     )
@@ -114,7 +114,7 @@ returns-4 c =
     let args = c .before .before .before .before .before .before .before .before .before .before .before .args in
     let is = c .before .before .before .before .before .outcome4 .given .1 in
     let lines : Outcome → List ℕ =
-    λ o. linesFor o (now (args .f)) (now (args .t)) (args .assumptions) (now (args .names)) in (
+    λ o. linesFor o (now (args .words)) (now (args .terms)) (args .assumptions) (now (args .names)) in (
       c .before .before .refused2 .ensures .0 ∙ ap (λ (o : Outcome). padded (length (now (args .out))) (lines o)) (sym is),
       c .before .before .refused2 .ensures .1 ∙ ap (λ (o : Outcome). length (lines o)) (sym is),
     )

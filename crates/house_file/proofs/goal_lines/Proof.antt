@@ -20,7 +20,7 @@ starts c = c .before .before .before .before .before .before .before .before
 abbrev worded : tie.After-fill-names → tie.After-fill-words
 worded c = c .before .before .before .before .before .before .before .before
 
-abbrev named : tie.After-search → tie.After-fill-names
+abbrev named : tie.After-search-claim → tie.After-fill-names
 named c = c .before .before .before .before .before .before .before
 
 -- the names are the front of their array
@@ -54,31 +54,31 @@ fill-indices-requires c κs = search needs
 fill-names-requires : tie.Need-fill-names-requires
 fill-names-requires c κs = search needs
 
-slice-reshare-prefix-search : tie.Need-slice-reshare-prefix-search
-slice-reshare-prefix-search c = search needs
+slice-reshare-prefix-search-claim : tie.Need-slice-reshare-prefix-search-claim
+slice-reshare-prefix-search-claim c = search needs
 
-slice-aggregate-search : tie.Need-slice-aggregate-search
-slice-aggregate-search c =
+slice-aggregate-search-claim : tie.Need-slice-aggregate-search-claim
+slice-aggregate-search-claim c =
     let w = c .before .before .before .before .before .before .before .before in
     let args = w .before .before .before .before .before .before .before .before .before .before .before .before .args in
     let entries = drop (4 + 4 * args .formulas) (now (args .file)) in
     laid-size (args .assumptions) (indicesFrom (args .assumptions) entries) (now (args .indices)) (w .fill-indices .last .1 .1 .1 .0)
     (w .fill-indices .ensures) (sym (indices-many (args .assumptions) entries))
 
-slice-reshare-prefix-search-2 : tie.Need-slice-reshare-prefix-search-2
-slice-reshare-prefix-search-2 c = names-inside (c .before .before .before .before)
+slice-reshare-prefix-search-claim-2 : tie.Need-slice-reshare-prefix-search-claim-2
+slice-reshare-prefix-search-claim-2 c = names-inside (c .before .before .before .before)
 
-slice-aggregate-search-2 : tie.Need-slice-aggregate-search-2
-slice-aggregate-search-2 c = names-sized (c .before .before .before .before .before)
+slice-aggregate-search-claim-2 : tie.Need-slice-aggregate-search-claim-2
+slice-aggregate-search-claim-2 c = names-sized (c .before .before .before .before .before)
 
-search-requires : tie.Need-search-requires
-search-requires c κs = search needs
+search-claim-requires : tie.Need-search-claim-requires
+search-claim-requires c κs = search needs
 
 -- what the search answered, over the arrays as they were filled
-answered : (c : tie.After-search) →
+answered : (c : tie.After-search-claim) →
     Settled ((starts (worded (named c))) .args .formulas) ((starts (worded (named c))) .args .assumptions)
-    ((starts (worded (named c))) .args .goal) (now ((starts (worded (named c))) .args .file)) (c .search .result)
-    (c .search .last .0) (c .search .last .1 .1 .1 .1 .1 .0)
+    ((starts (worded (named c))) .args .goal) (now ((starts (worded (named c))) .args .file)) (c .search-claim .result)
+    (c .search-claim .last .0) (c .search-claim .last .1 .1 .1 .1 .1 .0)
     (take ((named c) .fill-names .result) ((named c) .fill-names .last .1 .1 .1 .0))
 answered c =
     let names = (named c) .fill-names in
@@ -88,9 +88,9 @@ answered c =
     let args = start .args in
     settled (args .formulas) (args .assumptions) (args .goal) (now (args .file)) (now (args .words)) (words .last .1 .1 .0)
     (now (args .indices)) (indices .last .1 .1 .1 .0) (now (args .names)) (names .last .1 .1 .1 .0) (names .result)
-    (now (args .terms)) (c .search .last .0) (c .search .last .1 .1 .1 .1 .1 .0) (c .search .result) (start .pre .1 .0)
+    (now (args .terms)) (c .search-claim .last .0) (c .search-claim .last .1 .1 .1 .1 .1 .0) (c .search-claim .result) (start .pre .1 .0)
     (start .pre .1 .1 .0) (start .pre .1 .1 .1 .1 .1 .0) (words .ensures) (indices .ensures) (names .ensures .0) (names .ensures .1)
-    (c .search .ensures)
+    (c .search-claim .ensures)
 
 slice-reshare-prefix-answer-lines : tie.Need-slice-reshare-prefix-answer-lines
 slice-reshare-prefix-answer-lines c =
@@ -149,11 +149,11 @@ goal-lines-spec =
     fill-words-requires
     fill-indices-requires
     fill-names-requires
-    slice-reshare-prefix-search
-    slice-aggregate-search
-    slice-reshare-prefix-search-2
-    slice-aggregate-search-2
-    search-requires
+    slice-reshare-prefix-search-claim
+    slice-aggregate-search-claim
+    slice-reshare-prefix-search-claim-2
+    slice-aggregate-search-claim-2
+    search-claim-requires
     slice-reshare-prefix-answer-lines
     slice-aggregate-answer-lines
     answer-lines-requires

@@ -7,7 +7,7 @@ use lib.ListN.{length, replicate}
 use lib.Seq.{length-take-le}
 use denote.Ref.{now}
 use Rattle.theory.specs.NameText.{padded}
-use Rattle.house_text.specs.Tested.{draft}
+use Rattle.house_text.specs.Drafted.{draft}
 use Rattle.house_file.proofs.Lines.{size-inside, lines-written, lines-refused, refused-small}
 use Rattle.house_file.proofs.proved_lines.Statement.{statement}
 use Rattle.house_file.proofs.proved_lines.Tie as tie
@@ -22,7 +22,7 @@ array-share-prefix-text : tie.Need-array-share-prefix-text
 array-share-prefix-text c =
     let w = c .before .before .before in
     let args = w .before .before .before .before .before .before .before .before .args in
-    let x = draft (now (args .f)) (args .formulas) (args .assumptions) (now (args .names)) (now (args .t)) (args .terms) (args .root)
+    let x = draft (now (args .words)) (args .formulas) (args .assumptions) (now (args .names)) (now (args .terms)) (args .nodes) (args .root)
     (replicate 32768 0) in
     let size = w .write-text .result in
     let number = w .write-text .last .1 .1 .1 .1 .1 .1 .1 .1 .0 in
@@ -34,7 +34,7 @@ slice-aggregate-proved : tie.Need-slice-aggregate-proved
 slice-aggregate-proved c =
     let w = c .before .before .before .before in
     let args = w .before .before .before .before .before .before .before .before .args in
-    let x = draft (now (args .f)) (args .formulas) (args .assumptions) (now (args .names)) (now (args .t)) (args .terms) (args .root)
+    let x = draft (now (args .words)) (args .formulas) (args .assumptions) (now (args .names)) (now (args .terms)) (args .nodes) (args .root)
     (replicate 32768 0) in
     let size = w .write-text .result in
     let number = w .write-text .last .1 .1 .1 .1 .1 .1 .1 .1 .0 in
@@ -46,7 +46,7 @@ proved-requires : tie.Need-proved-requires
 proved-requires c κs =
     let w = c .before .before .before .before in
     let args = w .before .before .before .before .before .before .before .before .args in
-    let x = draft (now (args .f)) (args .formulas) (args .assumptions) (now (args .names)) (now (args .t)) (args .terms) (args .root)
+    let x = draft (now (args .words)) (args .formulas) (args .assumptions) (now (args .names)) (now (args .terms)) (args .nodes) (args .root)
     (replicate 32768 0) in
     let size = w .write-text .result in
     let number = w .write-text .last .1 .1 .1 .1 .1 .1 .1 .1 .0 in
@@ -55,7 +55,7 @@ proved-requires c κs =
     let pre = w .before .before .before .before .before .before .before .before .pre in (
       pre .0,
       subst (λ (xs : List ℕ). length xs ≤ length (now (args .out)))
-          (lines-written x size number text hands (args .steps) (args .indices) (args .formulas) (args .terms)
+          (lines-written x size number text hands (args .steps) (args .indices) (args .formulas) (args .nodes)
           (c .before .before .if1 .taken)) (pre .1),
     )
 
@@ -66,14 +66,14 @@ returns : tie.Need-returns
 returns c =
     let w = c .before .before .before .before .before .before .before in
     let args = w .before .before .before .before .before .before .before .before .args in
-    let x = draft (now (args .f)) (args .formulas) (args .assumptions) (now (args .names)) (now (args .t)) (args .terms) (args .root)
+    let x = draft (now (args .words)) (args .formulas) (args .assumptions) (now (args .names)) (now (args .terms)) (args .nodes) (args .root)
     (replicate 32768 0) in
     let size = w .write-text .result in
     let number = w .write-text .last .1 .1 .1 .1 .1 .1 .1 .1 .0 in
     let text = w .write-text .last .1 .1 .1 .1 .1 .1 .1 .0 in
     let hands = w .write-text .ensures .0 in
     let proved = c .before .before .proved in
-    let lines = lines-written x size number text hands (args .steps) (args .indices) (args .formulas) (args .terms)
+    let lines = lines-written x size number text hands (args .steps) (args .indices) (args .formulas) (args .nodes)
     (c .before .before .before .before .before .if1 .taken) in (
       proved .ensures .0 ∙ ap (padded (length (now (args .out)))) (sym lines),
       proved .ensures .1 ∙ ap length (sym lines),
@@ -83,7 +83,7 @@ refused-requires : tie.Need-refused-requires
 refused-requires c κs =
     let w = c .before .before .before in
     let args = w .before .before .before .before .before .before .before .before .args in
-    let x = draft (now (args .f)) (args .formulas) (args .assumptions) (now (args .names)) (now (args .t)) (args .terms) (args .root)
+    let x = draft (now (args .words)) (args .formulas) (args .assumptions) (now (args .names)) (now (args .terms)) (args .nodes) (args .root)
     (replicate 32768 0) in
     let size = w .write-text .result in
     let number = w .write-text .last .1 .1 .1 .1 .1 .1 .1 .1 .0 in
@@ -92,7 +92,7 @@ refused-requires c κs =
     let pre = w .before .before .before .before .before .before .before .before .pre in (
       refused-small x size number text hands,
       subst (λ (xs : List ℕ). length xs ≤ length (now (args .out)))
-          (lines-refused x size number text hands (args .steps) (args .indices) (args .formulas) (args .terms) (c .before .if1 .left))
+          (lines-refused x size number text hands (args .steps) (args .indices) (args .formulas) (args .nodes) (c .before .if1 .left))
           (pre .1),
     )
 
@@ -103,14 +103,14 @@ returns-2 : tie.Need-returns-2
 returns-2 c =
     let w = c .before .before .before .before .before .before in
     let args = w .before .before .before .before .before .before .before .before .args in
-    let x = draft (now (args .f)) (args .formulas) (args .assumptions) (now (args .names)) (now (args .t)) (args .terms) (args .root)
+    let x = draft (now (args .words)) (args .formulas) (args .assumptions) (now (args .names)) (now (args .terms)) (args .nodes) (args .root)
     (replicate 32768 0) in
     let size = w .write-text .result in
     let number = w .write-text .last .1 .1 .1 .1 .1 .1 .1 .1 .0 in
     let text = w .write-text .last .1 .1 .1 .1 .1 .1 .1 .0 in
     let hands = w .write-text .ensures .0 in
     let refused = c .before .before .refused in
-    let lines = lines-refused x size number text hands (args .steps) (args .indices) (args .formulas) (args .terms)
+    let lines = lines-refused x size number text hands (args .steps) (args .indices) (args .formulas) (args .nodes)
     (c .before .before .before .before .if1 .left) in (
       refused .ensures .0 ∙ ap (padded (length (now (args .out)))) (sym lines),
       refused .ensures .1 ∙ ap length (sym lines),

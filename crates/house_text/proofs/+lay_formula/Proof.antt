@@ -55,7 +55,7 @@ lay-formula-claims t = (
 -- the word, once its kind and its left field are read
 read : (t : ℕ) (c : lay-formula-lts.After-left (lay-formula-claims t) (lay-formula-at t) lay-formula.Post) →
     let args = c .before .before .before .before .before .before .args in
-    WordRead (now (args .f)) (args .i) (c .before .kind .result) (c .left .result)
+    WordRead (now (args .words)) (args .i) (c .before .kind .result) (c .left .result)
 read t c =
     let start = c .before .before .before .before .before .before in
     record {
@@ -72,13 +72,13 @@ lay-formula-returns : (t : ℕ) → lay-formula-lts.Need-returns (lay-formula-cl
 lay-formula-returns t c =
     let start = c .before .before .before in
     let args = start .args in
-    laid-as (no-formula (now (args .f)) (args .levels) (args .i) (c .if1 .taken)) (laid-none (now (args .buf)) (args .at))
+    laid-as (no-formula (now (args .words)) (args .levels) (args .i) (c .if1 .taken)) (laid-none (now (args .buf)) (args .at))
 
 lay-formula-returns-2 : (t : ℕ) → lay-formula-lts.Need-returns-2 (lay-formula-claims t) (lay-formula-at t) lay-formula.Post
 lay-formula-returns-2 t c =
     let start = c .before .before .before .before in
     let args = start .args in
-    laid-no-more (formPiece (now (args .f)) (args .levels) (args .i)) (now (args .buf)) (args .at) (c .if2 .taken)
+    laid-no-more (formPiece (now (args .words)) (args .levels) (args .i)) (now (args .buf)) (args .at) (c .if2 .taken)
 
 lay-formula-kind-requires : (t : ℕ) → lay-formula-lts.Need-kind-requires (lay-formula-claims t) (lay-formula-at t) lay-formula.Post
 lay-formula-kind-requires t c κs = search needs

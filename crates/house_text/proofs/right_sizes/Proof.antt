@@ -18,13 +18,13 @@ returns c =
     let at-formula-sizes = at-if1 .before in
     let start = at-formula-sizes .before in
     let args = start .args in
-    c .node-sizes .ensures ∙ right-words (formulaSizes (args .words) (args .count)) (nodeSizes (args .numbers) (args .nodes))
+    c .node-sizes .ensures ∙ right-words (formulaSizes (args .room) (args .count)) (nodeSizes (args .numbers) (args .nodes))
     (sym (at-formula-sizes .formula-sizes .ensures) ∙ at-if1 .if1 .taken)
 
 returns-2 : tie.Need-returns-2
 returns-2 c =
     let args = c .before .before .args in
-    wrong-words (formulaSizes (args .words) (args .count)) (nodeSizes (args .numbers) (args .nodes))
+    wrong-words (formulaSizes (args .room) (args .count)) (nodeSizes (args .numbers) (args .nodes))
     (sym (c .before .formula-sizes .ensures) ∙ c .if1 .left)
 
 pub right-sizes-spec : {M : Type 1} → statement M

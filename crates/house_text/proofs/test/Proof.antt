@@ -4,10 +4,9 @@ use mathlib.Core.List.{[]}
 use lib.ListN.{length}
 use denote.Ref.{now}
 use Rattle.theory.specs.Refusal.{faultAt, orElse, unless}
-use Rattle.formula.specs.Answers as words
-use Rattle.identifier_generator.specs.Places as names
-use Rattle.proof_term.specs.Places as terms
-use Rattle.house_text.specs.Tested.{draft, refusedBy}
+use Rattle.refusal.specs.Answers.{placeOf}
+use Rattle.refusal.specs.Table.{refusedBy}
+use Rattle.house_text.specs.Drafted.{draft}
 use Rattle.house_text.proofs.Testing.{in-order, nodes-fit}
 use borrow.Author.Needs.{needs}
 use Rattle.house_text.proofs.test.Statement.{statement}
@@ -23,7 +22,7 @@ enum-known-i : tie.Need-enum-known-i
 enum-known-i c = search needs
 
 returns : tie.Need-returns
-unfolding faultAt orElse unless refusedBy words.placeOf
+unfolding faultAt orElse unless refusedBy placeOf
 returns c =
     let at-i = c .before in
     let at-bad-word = at-i .before .before in
@@ -31,10 +30,10 @@ returns c =
     let at-right-sizes = at-if1 .before in
     let start = at-right-sizes .before .before .before .before in
     let args = start .args in
-    let x = draft (now (args .f)) (args .count) (args .assumptions) (now (args .names)) (now (args .t)) (args .nodes) (args .root)
+    let x = draft (now (args .words)) (args .count) (args .assumptions) (now (args .names)) (now (args .terms)) (args .nodes) (args .root)
     [] in
     in-order x (sym (at-if1 .if1 .taken) ∙ at-right-sizes .right-sizes .ensures)
-    (ap words.placeOf (sym (at-i .i .given .1)) ∙ at-bad-word .bad-word .ensures)
+    (ap placeOf (sym (at-i .i .given .1)) ∙ at-bad-word .bad-word .ensures)
     refl
     refl
     refl
@@ -49,7 +48,7 @@ enum-known-i-2 : tie.Need-enum-known-i-2
 enum-known-i-2 c = search needs
 
 returns-2 : tie.Need-returns-2
-unfolding faultAt orElse unless refusedBy words.placeOf
+unfolding faultAt orElse unless refusedBy placeOf
 returns-2 c =
     let at-i2 = c .before in
     let at-too-many = at-i2 .before .before in
@@ -59,11 +58,11 @@ returns-2 c =
     let at-right-sizes = at-if1 .before in
     let start = at-right-sizes .before .before .before .before in
     let args = start .args in
-    let x = draft (now (args .f)) (args .count) (args .assumptions) (now (args .names)) (now (args .t)) (args .nodes) (args .root)
+    let x = draft (now (args .words)) (args .count) (args .assumptions) (now (args .names)) (now (args .terms)) (args .nodes) (args .root)
     [] in
     in-order x (sym (at-if1 .if1 .taken) ∙ at-right-sizes .right-sizes .ensures)
-    (ap words.placeOf (sym (at-enum-told .enum-told .given .1)) ∙ at-bad-word .bad-word .ensures)
-    (ap words.placeOf (sym (at-i2 .i2 .given .1)) ∙ at-too-many .too-many .ensures)
+    (ap placeOf (sym (at-enum-told .enum-told .given .1)) ∙ at-bad-word .bad-word .ensures)
+    (ap placeOf (sym (at-i2 .i2 .given .1)) ∙ at-too-many .too-many .ensures)
     refl
     refl
 
@@ -77,7 +76,7 @@ enum-known-i-3 : tie.Need-enum-known-i-3
 enum-known-i-3 c = search needs
 
 returns-3 : tie.Need-returns-3
-unfolding faultAt orElse unless refusedBy words.placeOf
+unfolding faultAt orElse unless refusedBy placeOf
 returns-3 c =
     let at-i3 = c .before in
     let at-bad-name = at-i3 .before .before in
@@ -89,12 +88,12 @@ returns-3 c =
     let at-right-sizes = at-if1 .before in
     let start = at-right-sizes .before .before .before .before in
     let args = start .args in
-    let x = draft (now (args .f)) (args .count) (args .assumptions) (now (args .names)) (now (args .t)) (args .nodes) (args .root)
+    let x = draft (now (args .words)) (args .count) (args .assumptions) (now (args .names)) (now (args .terms)) (args .nodes) (args .root)
     [] in
     in-order x (sym (at-if1 .if1 .taken) ∙ at-right-sizes .right-sizes .ensures)
-    (ap words.placeOf (sym (at-enum-told .enum-told .given .1)) ∙ at-bad-word .bad-word .ensures)
-    (ap words.placeOf (sym (at-enum-told2 .enum-told2 .given .1)) ∙ at-too-many .too-many .ensures)
-    (ap names.placeOf (sym (at-i3 .i3 .given .1)) ∙ at-bad-name .bad-name .ensures)
+    (ap placeOf (sym (at-enum-told .enum-told .given .1)) ∙ at-bad-word .bad-word .ensures)
+    (ap placeOf (sym (at-enum-told2 .enum-told2 .given .1)) ∙ at-too-many .too-many .ensures)
+    (ap placeOf (sym (at-i3 .i3 .given .1)) ∙ at-bad-name .bad-name .ensures)
     refl
 
 enum-told-3 : tie.Need-enum-told-3
@@ -106,14 +105,14 @@ bad-term-requires c κs =
     let at-right-sizes = at-if1 .before in
     let start = at-right-sizes .before .before .before .before in
     let args = start .args in
-    nodes-fit (length (now (args .f))) (args .count) (length (now (args .t))) (args .nodes)
+    nodes-fit (length (now (args .words))) (args .count) (length (now (args .terms))) (args .nodes)
     (sym (at-right-sizes .right-sizes .ensures) ∙ at-if1 .if1 .taken)
 
 enum-known-i-4 : tie.Need-enum-known-i-4
 enum-known-i-4 c = search needs
 
 returns-4 : tie.Need-returns-4
-unfolding faultAt orElse unless refusedBy words.placeOf
+unfolding faultAt orElse unless refusedBy placeOf
 returns-4 c =
     let at-i4 = c .before in
     let at-bad-term = at-i4 .before .before in
@@ -127,19 +126,19 @@ returns-4 c =
     let at-right-sizes = at-if1 .before in
     let start = at-right-sizes .before .before .before .before in
     let args = start .args in
-    let x = draft (now (args .f)) (args .count) (args .assumptions) (now (args .names)) (now (args .t)) (args .nodes) (args .root)
+    let x = draft (now (args .words)) (args .count) (args .assumptions) (now (args .names)) (now (args .terms)) (args .nodes) (args .root)
     [] in
     in-order x (sym (at-if1 .if1 .taken) ∙ at-right-sizes .right-sizes .ensures)
-    (ap words.placeOf (sym (at-enum-told .enum-told .given .1)) ∙ at-bad-word .bad-word .ensures)
-    (ap words.placeOf (sym (at-enum-told2 .enum-told2 .given .1)) ∙ at-too-many .too-many .ensures)
-    (ap names.placeOf (sym (at-enum-told3 .enum-told3 .given .1)) ∙ at-bad-name .bad-name .ensures)
-    (ap terms.placeOf (sym (at-i4 .i4 .given .1)) ∙ at-bad-term .bad-term .ensures)
+    (ap placeOf (sym (at-enum-told .enum-told .given .1)) ∙ at-bad-word .bad-word .ensures)
+    (ap placeOf (sym (at-enum-told2 .enum-told2 .given .1)) ∙ at-too-many .too-many .ensures)
+    (ap placeOf (sym (at-enum-told3 .enum-told3 .given .1)) ∙ at-bad-name .bad-name .ensures)
+    (ap placeOf (sym (at-i4 .i4 .given .1)) ∙ at-bad-term .bad-term .ensures)
 
 enum-told-4 : tie.Need-enum-told-4
 enum-told-4 c = search needs
 
 returns-5 : tie.Need-returns-5
-unfolding faultAt orElse unless refusedBy words.placeOf
+unfolding faultAt orElse unless refusedBy placeOf
 returns-5 c =
     let at-bad-term = c .before .before in
     let at-enum-told3 = at-bad-term .before in
@@ -152,13 +151,13 @@ returns-5 c =
     let at-right-sizes = at-if1 .before in
     let start = at-right-sizes .before .before .before .before in
     let args = start .args in
-    let x = draft (now (args .f)) (args .count) (args .assumptions) (now (args .names)) (now (args .t)) (args .nodes) (args .root)
+    let x = draft (now (args .words)) (args .count) (args .assumptions) (now (args .names)) (now (args .terms)) (args .nodes) (args .root)
     [] in
     in-order x (sym (at-if1 .if1 .taken) ∙ at-right-sizes .right-sizes .ensures)
-    (ap words.placeOf (sym (at-enum-told .enum-told .given .1)) ∙ at-bad-word .bad-word .ensures)
-    (ap words.placeOf (sym (at-enum-told2 .enum-told2 .given .1)) ∙ at-too-many .too-many .ensures)
-    (ap names.placeOf (sym (at-enum-told3 .enum-told3 .given .1)) ∙ at-bad-name .bad-name .ensures)
-    (ap terms.placeOf (sym (c .enum-told4 .given .1)) ∙ at-bad-term .bad-term .ensures)
+    (ap placeOf (sym (at-enum-told .enum-told .given .1)) ∙ at-bad-word .bad-word .ensures)
+    (ap placeOf (sym (at-enum-told2 .enum-told2 .given .1)) ∙ at-too-many .too-many .ensures)
+    (ap placeOf (sym (at-enum-told3 .enum-told3 .given .1)) ∙ at-bad-name .bad-name .ensures)
+    (ap placeOf (sym (c .enum-told4 .given .1)) ∙ at-bad-term .bad-term .ensures)
 
 returns-6 : tie.Need-returns-6
 unfolding faultAt orElse unless refusedBy
@@ -166,7 +165,7 @@ returns-6 c =
     let at-right-sizes = c .before in
     let start = at-right-sizes .before .before .before .before in
     let args = start .args in
-    let x = draft (now (args .f)) (args .count) (args .assumptions) (now (args .names)) (now (args .t)) (args .nodes) (args .root)
+    let x = draft (now (args .words)) (args .count) (args .assumptions) (now (args .names)) (now (args .terms)) (args .nodes) (args .root)
     [] in
     in-order x (sym (c .if1 .left) ∙ at-right-sizes .right-sizes .ensures) refl refl refl refl
 

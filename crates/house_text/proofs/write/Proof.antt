@@ -4,7 +4,7 @@ use mathlib.Core.Path.{refl}
 use denote.Ref.{now}
 use Rattle.theory.specs.Writer.{Draft}
 use Rattle.identifier_generator.proofs.Handing.{front-is-part, part-inside}
-use Rattle.house_text.specs.Tested.{draft}
+use Rattle.house_text.specs.Drafted.{draft}
 use Rattle.house_text.proofs.WholeText.{written-front}
 use Rattle.house_text.proofs.write.Statement.{statement}
 use Rattle.house_text.proofs.write.Tie as tie
@@ -13,7 +13,7 @@ use Rattle.house_text.proofs.write.Tie as tie
 abbrev lent : tie.Start → Draft
 lent c =
     let args = c .args in
-    draft (now (args .f)) (args .count) (args .assumptions) (now (args .names)) (now (args .t)) (args .nodes) (args .root) (now (args .buf))
+    draft (now (args .words)) (args .count) (args .assumptions) (now (args .names)) (now (args .terms)) (args .nodes) (args .root) (now (args .buf))
 
 write-text-requires : tie.Need-write-text-requires
 write-text-requires c κs = search needs

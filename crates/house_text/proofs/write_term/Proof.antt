@@ -22,7 +22,7 @@ returns c =
     let at-lay-term = at-if1 .before .before .before in
     let start = at-lay-term .before .before .before .before .before .before in
     let args = start .args in
-    hands-twelve (now (args .f)) (now (args .t)) (namesIn (now (args .names))) (args .root) (at-lay-term .lay-term .ensures)
+    hands-twelve (now (args .words)) (now (args .terms)) (namesIn (now (args .names))) (args .root) (at-lay-term .lay-term .ensures)
     (at-if1 .if1 .taken)
     (at-clear-from .clear-from .ensures)
 
@@ -39,7 +39,7 @@ returns-2 c =
     let at-lay-term = at-if1 .before .before .before in
     let start = at-lay-term .before .before .before .before .before .before in
     let args = start .args in
-    hands-whole (now (args .f)) (now (args .t)) (namesIn (now (args .names))) (args .root) (at-lay-term .lay-term .ensures)
+    hands-whole (now (args .words)) (now (args .terms)) (namesIn (now (args .names))) (args .root) (at-lay-term .lay-term .ensures)
     (at-if1 .if1 .left)
     (at-clear-from2 .clear-from2 .ensures)
 

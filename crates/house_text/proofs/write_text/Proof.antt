@@ -8,8 +8,10 @@ use denote.Ref.{now}
 use Rattle.theory.specs.Layout.{nodeWidth}
 use Rattle.theory.specs.Writer.{Draft, writerRefusal, written}
 use Rattle.identifier_generator.specs.Handed.{Hands}
-use Rattle.house_text.specs.Tested.{draft, refusedBy, placeOf}
-use Rattle.house_text.proofs.Drafts.{none-refused, refused-hands, words-there, numbers-there, parts-given, root-there}
+use Rattle.refusal.specs.Table.{refusedBy, placeIn}
+use Rattle.refusal.proofs.Table.{none-refused}
+use Rattle.house_text.specs.Drafted.{draft}
+use Rattle.house_text.proofs.Drafts.{refused-hands, words-there, numbers-there, parts-given, root-there}
 use Rattle.house_text.proofs.Drafts.{passed-hands, passed-place}
 use borrow.Author.Needs.{needs}
 use Rattle.house_text.proofs.write_text.Statement.{statement}
@@ -19,7 +21,7 @@ use Rattle.house_text.proofs.write_text.Tie as tie
 abbrev lent : tie.Start → Draft
 lent c =
     let args = c .args in
-    draft (now (args .f)) (args .count) (args .assumptions) (now (args .names)) (now (args .t)) (args .nodes) (args .root)
+    draft (now (args .words)) (args .count) (args .assumptions) (now (args .names)) (now (args .terms)) (args .nodes) (args .root)
     (now (args .buf))
 
 -- number 0 says that nothing is refused
@@ -49,14 +51,14 @@ slice-aggregate-write-term : tie.Need-slice-aggregate-write-term
 slice-aggregate-write-term c =
     let at-if1 = c .before in
     let start = at-if1 .before .before .before .before .before .before .before .before in
-    sym (length-take-le (start .args .count) (now (start .args .f)) (words-there (lent start) (passed at-if1)))
+    sym (length-take-le (start .args .count) (now (start .args .words)) (words-there (lent start) (passed at-if1)))
 
 slice-aggregate-write-term-2 : tie.Need-slice-aggregate-write-term-2
 slice-aggregate-write-term-2 c =
     let at-if1 = c .before .before in
     let start = at-if1 .before .before .before .before .before .before .before .before in
     let args = start .args in
-    sym (length-take-le (args .nodes * nodeWidth) (now (args .t)) (numbers-there (lent start) (passed at-if1)))
+    sym (length-take-le (args .nodes * nodeWidth) (now (args .terms)) (numbers-there (lent start) (passed at-if1)))
 
 write-term-requires : tie.Need-write-term-requires
 write-term-requires c κs =
@@ -68,14 +70,14 @@ same-length : tie.Need-same-length
 same-length c = search needs
 
 returns : tie.Need-returns
-unfolding placeOf
+unfolding placeIn
 returns c =
     let at-write-term = c .before .before in
     let at-if1 = at-write-term .before .before .before .before .before in
     let at-place-of = at-if1 .before in
     let start = at-place-of .before .before .before .before .before .before .before in (
       passed-hands (lent start) (passed at-if1) (at-write-term .write-term .ensures),
-      at-place-of .place-of .ensures ∙ ap placeOf (nothing at-if1) ∙ passed-place (lent start) (passed at-if1),
+      at-place-of .place-of .ensures ∙ ap placeIn (nothing at-if1) ∙ passed-place (lent start) (passed at-if1),
     )
 
 returns-2 : tie.Need-returns-2

@@ -17,13 +17,13 @@ abbrev μ-loop : tie.MeasureT-loop
 μ-loop t₀ from i₀ t i = length t₀ - i
 
 loop-holds : tie.Need-loop-holds Inv-loop μ-loop
-loop-holds c = (inr refl, clearing-starts 0 (now (c .args .t)) (c .args .from))
+loop-holds c = (inr refl, clearing-starts 0 (now (c .args .terms)) (c .args .from))
 
-mul-t : tie.Need-mul-t Inv-loop μ-loop
-mul-t c = search needs
+mul-terms : tie.Need-mul-terms Inv-loop μ-loop
+mul-terms c = search needs
 
-slice-write-t : tie.Need-slice-write-t Inv-loop μ-loop
-slice-write-t c = search needs
+slice-write-terms : tie.Need-slice-write-terms Inv-loop μ-loop
+slice-write-terms c = search needs
 
 add-i : tie.Need-add-i Inv-loop μ-loop
 add-i c = search needs
@@ -35,7 +35,7 @@ loop-again : tie.Need-loop-again Inv-loop μ-loop
 loop-again c =
     let at = c .before in
     let a = at .before .args in
-    (inl (omega (arith, at .loop .inv .1 .long)), clearing-goes 0 (now (a .t)) (a .from) (at .loop .inv .1) (omega arith))
+    (inl (omega (arith, at .loop .inv .1 .long)), clearing-goes 0 (now (a .terms)) (a .from) (at .loop .inv .1) (omega arith))
 
 same-length : tie.Need-same-length Inv-loop μ-loop
 same-length c = c .before .loop .inv .1 .long
@@ -44,8 +44,8 @@ returns : tie.Need-returns Inv-loop μ-loop
 returns c =
     let at = c .before in
     let a = at .before .args in
-    clearing-done 0 (now (a .t)) (a .from) (at .loop .inv .1) (omega (arith, at .loop .inv .1 .long)) (at .loop .inv .0)
-    ∙ padded-take (now (a .t)) (a .from)
+    clearing-done 0 (now (a .terms)) (a .from) (at .loop .inv .1) (omega (arith, at .loop .inv .1 .long)) (at .loop .inv .0)
+    ∙ padded-take (now (a .terms)) (a .from)
 
 pub clear-spec : {M : Type 1} → statement M
-clear-spec = tie.close (tie.spec Inv-loop μ-loop loop-holds mul-t slice-write-t add-i loop-less loop-again same-length returns)
+clear-spec = tie.close (tie.spec Inv-loop μ-loop loop-holds mul-terms slice-write-terms add-i loop-less loop-again same-length returns)

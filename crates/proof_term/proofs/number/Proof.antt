@@ -19,7 +19,7 @@ returns : tie.Need-returns
 returns c = search needs
 
 returns-2 : tie.Need-returns-2
-returns-2 c = sym (List·getD-eq-default (c .before .args .t .now) 0 (c .if1 .left))
+returns-2 c = sym (List·getD-eq-default (c .before .args .terms .now) 0 (c .if1 .left))
 
 pub number-spec : {M : Type 1} → statement M
 number-spec =

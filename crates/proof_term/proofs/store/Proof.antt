@@ -5,14 +5,14 @@ use lib.Seq.{set-out}
 use Rattle.proof_term.proofs.store.Statement.{statement}
 use Rattle.proof_term.proofs.store.Tie as tie
 
-cast-t : tie.Need-cast-t
-cast-t c = search needs
+cast-terms : tie.Need-cast-terms
+cast-terms c = search needs
 
-mul-t : tie.Need-mul-t
-mul-t c = search needs
+mul-terms : tie.Need-mul-terms
+mul-terms c = search needs
 
-slice-write-t : tie.Need-slice-write-t
-slice-write-t c = search needs
+slice-write-terms : tie.Need-slice-write-terms
+slice-write-terms c = search needs
 
 same-length : tie.Need-same-length
 same-length c = search needs
@@ -24,4 +24,4 @@ returns-2 : tie.Need-returns-2
 returns-2 c = sym (set-out _ _ _ (c .if1 .left))
 
 pub store-spec : {M : Type 1} → statement M
-store-spec = tie.close (tie.spec cast-t mul-t slice-write-t same-length returns returns-2)
+store-spec = tie.close (tie.spec cast-terms mul-terms slice-write-terms same-length returns returns-2)

@@ -40,8 +40,8 @@ use Rattle.prove.proofs.Generated.second_half.Reads as second-half
 use Rattle.prove.proofs.Generated.second_half.Lts as second-half-lts
 use Rattle.prove.proofs.Generated.second_premise.Reads as second-premise
 use Rattle.prove.proofs.Generated.second_premise.Lts as second-premise-lts
-use Rattle.premises.proofs.Generated.half.Reads as half-reads
-use Rattle.premises.proofs.Generated.second.Reads as second-reads
+use Rattle.search_premises.proofs.Generated.half.Reads as half-reads
+use Rattle.search_premises.proofs.Generated.second.Reads as second-reads
 use Rattle.prove.proofs.+attempt+branch+first_premise+left+left_or+positions+premise+right+right_and+right_impl+search+second_half+second_premise.{statement}
 use Rattle.prove.proofs.+attempt+branch+first_premise+left+left_or+positions+premise+right+right_and+right_impl+search+second_half+second_premise.Proof.Tie.{close}
 use Rattle.prove.proofs.+attempt+branch+first_premise+left+left_or+positions+premise+right+right_and+right_impl+search+second_half+second_premise.Proof.Claims.{μ-attempt, μ-branch, μ-first-premise, μ-left, μ-left-or, μ-positions, μ-premise, μ-right, μ-right-and, μ-right-impl, μ-search, μ-second-half, μ-second-premise, attempt-at, branch-at, first-premise-at, left-at, left-below, left-or-at, positions-at, premise-at, right-at, right-and-at, right-impl-at, search-at, second-half-at, second-premise-at, attempt-claims, first-premise-claims, left-claims, left-or-claims, positions-claims, premise-claims, right-claims, right-and-claims, right-impl-claims, search-claims, second-half-claims}

@@ -4,11 +4,11 @@ use borrow.Author.Needs.{needs}
 use mathlib.Core.Path.{refl, ap}
 use native.Mathlib.Omega.{arith}
 use Rattle.theory.proofs.Passing.{passes}
-use Rattle.claim.proofs.First.{few-names}
-use Rattle.claim.proofs.Ending.{ends-short, right-asks, right-ends}
+use Rattle.call.proofs.First.{few-names}
+use Rattle.call.proofs.Ending.{ends-short, right-asks, right-ends}
 use lib.ListN.{length}
 use denote.Ref.{now}
-use Rattle.claim.specs.Lent.{claimOf}
+use Rattle.call.specs.Lent.{claimOf}
 use Rattle.prove.proofs.start.Statement.{statement}
 use Rattle.prove.proofs.start.Proof.Tie as tie
 
@@ -19,15 +19,15 @@ returns : tie.Need-returns
 returns c =
     let l = c .before .before in
     let a = l .before .before .before .before .before .args in
-    let x = claimOf (now (a .f)) (a .count) (now (a .assumed)) (now (a .names)) (a .goal) (now (a .t)) (length (now (a .w))) (a .steps) in
-    ends-short x (now (a .w)) (l .before .before .before .before .before .pre) refl
+    let x = claimOf (now (a .words)) (a .count) (now (a .assumed)) (now (a .names)) (a .goal) (now (a .terms)) (length (now (a .work))) (a .steps) in
+    ends-short x (now (a .work)) (l .before .before .before .before .before .pre) refl
     (omega (arith, c .if1 .taken, ap (λ v. v .terms) (l .limits .ensures)))
 
 assume-requires : tie.Need-assume-requires
 assume-requires c κs =
     let s = c .before .before .before .before .before .before .before .before .before in
     let a = s .args in
-    let x = claimOf (now (a .f)) (a .count) (now (a .assumed)) (now (a .names)) (a .goal) (now (a .t)) (length (now (a .w))) (a .steps) in
+    let x = claimOf (now (a .words)) (a .count) (now (a .assumed)) (now (a .names)) (a .goal) (now (a .terms)) (length (now (a .work))) (a .steps) in
     (passes x (s .pre)) .few
 
 right-requires : tie.Need-right-requires
@@ -36,9 +36,9 @@ right-requires c κs =
     let s = test .before .before .before .before .before .before .before in
     let a = s .args in
     let e = c .before .before .before .before .before .before .assume .ensures in
-    let x = claimOf (now (a .f)) (a .count) (now (a .assumed)) (now (a .names)) (a .goal) (now (a .t)) (length (now (a .w))) (a .steps) in (
-      right-asks x (now (a .w)) (s .pre) refl (test .before .before .limits .ensures) (e .1 .0) (e .1 .1) (e .0) (test .if1 .left),
-      few-names x (now (a .w)) (s .pre) refl,
+    let x = claimOf (now (a .words)) (a .count) (now (a .assumed)) (now (a .names)) (a .goal) (now (a .terms)) (length (now (a .work))) (a .steps) in (
+      right-asks x (now (a .work)) (s .pre) refl (test .before .before .limits .ensures) (e .1 .0) (e .1 .1) (e .0) (test .if1 .left),
+      few-names x (now (a .work)) (s .pre) refl,
     )
 
 same-length : tie.Need-same-length
@@ -55,9 +55,9 @@ returns-2 c =
     let test = c .before .before .before .before .before .before .before .before .before .before .before .before .before .before .before in
     let s = test .before .before .before .before .before .before .before in
     let a = s .args in
-    let x = claimOf (now (a .f)) (a .count) (now (a .assumed)) (now (a .names)) (a .goal) (now (a .t)) (length (now (a .w))) (a .steps) in
+    let x = claimOf (now (a .words)) (a .count) (now (a .assumed)) (now (a .names)) (a .goal) (now (a .terms)) (length (now (a .work))) (a .steps) in
     let e = c .before .before .before .before .before .before .before .before .before .before .before .before .assume .ensures in
-    right-ends x (now (a .w)) (s .pre) refl
+    right-ends x (now (a .work)) (s .pre) refl
     (test .before .before .limits .ensures) (e .1 .0) (e .1 .1) (e .0) (test .if1 .left)
     (c .before .before .before .before .before .right .ensures)
 

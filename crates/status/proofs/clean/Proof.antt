@@ -22,7 +22,7 @@ returns : tie.Need-returns
 returns c =
     let t = c .before .before in
     let f = t .before .before .before .before in
-    (f .clear .ensures, t .clear2 .ensures ∙ nothing-kept (now (f .before .before .before .before .args .t)))
+    (f .clear .ensures, t .clear2 .ensures ∙ nothing-kept (now (f .before .before .before .before .args .terms)))
 
 pub clean-spec : {M : Type 1} → statement M
 clean-spec = tie.close (tie.spec clear-requires clear-requires-2 same-length same-length-2 returns)

@@ -20,15 +20,15 @@ returns : tie.Need-returns
 unfolding shape
 returns c =
     let a = c .before .before .before .args in
-    let v : ℕ = getD (now (a .f)) (a .i) 0 in
-    no-parts-low (leftOf v) (rightOf v) (now (a .w)) (kindOf v) (subst (λ (n : ℕ). n < 3) (c .before .kind .ensures) (c .if1 .taken))
+    let v : ℕ = getD (now (a .words)) (a .i) 0 in
+    no-parts-low (leftOf v) (rightOf v) (now (a .work)) (kindOf v) (subst (λ (n : ℕ). n < 3) (c .before .kind .ensures) (c .if1 .taken))
 
 returns-2 : tie.Need-returns-2
 unfolding shape
 returns-2 c =
     let a = c .before .before .before .before .args in
-    let v : ℕ = getD (now (a .f)) (a .i) 0 in
-    no-parts-high (leftOf v) (rightOf v) (now (a .w)) (kindOf v)
+    let v : ℕ = getD (now (a .words)) (a .i) 0 in
+    no-parts-high (leftOf v) (rightOf v) (now (a .work)) (kindOf v)
     (subst (λ (n : ℕ). 5 < n) (c .before .before .kind .ensures) (c .if2 .taken))
 
 left-requires : tie.Need-left-requires
@@ -52,11 +52,11 @@ returns-3 c =
     let p = c .before .before .before .before .before in
     let k = p .before .before .before .before .before in
     let a = k .before .before .args in
-    let v : ℕ = getD (now (a .f)) (a .i) 0 in
+    let v : ℕ = getD (now (a .words)) (a .i) 0 in
     c .before .put2 .ensures
     ∙ ap₂ (λ (w : List Rec) (r : ℕ). set w r mark) (p .put .ensures) (c .before .before .right .ensures)
-    ∙ ap (λ (l : ℕ). set (set (now (a .w)) l mark) (rightOf v) mark) (p .before .left .ensures)
-    ∙ both-parts (leftOf v) (rightOf v) (now (a .w)) (kindOf v)
+    ∙ ap (λ (l : ℕ). set (set (now (a .work)) l mark) (rightOf v) mark) (p .before .left .ensures)
+    ∙ both-parts (leftOf v) (rightOf v) (now (a .work)) (kindOf v)
     (subst (λ (n : ℕ). 3 ≤ n) (k .kind .ensures) (p .before .before .before .before .if1 .left))
     (subst (λ (n : ℕ). n ≤ 5) (k .kind .ensures) (p .before .before .before .if2 .left))
 

@@ -20,7 +20,7 @@ abbrev μ-loop : tie.MeasureT-loop
 loop-holds : tie.Need-loop-holds Inv-loop μ-loop
 loop-holds c =
     let a = c .before .args in
-    going-starts (now (a .f)) (a .count) (a .from) (now (a .w)) (c .before .pre .0) (c .before .pre .1)
+    going-starts (now (a .words)) (a .count) (a .from) (now (a .work)) (c .before .pre .0) (c .before .pre .1)
 
 sub-i : tie.Need-sub-i Inv-loop μ-loop
 sub-i c = search needs
@@ -42,7 +42,7 @@ returns c =
     let at = c .before .before .before .before .before .before in
     let s = at .before .before .before in
     let a = s .args in
-    going-stops (now (a .f)) (a .count) (a .from) (now (a .w)) (s .pre .0) (s .pre .1) (at .before .loop .inv) (at .loop-test .taken)
+    going-stops (now (a .words)) (a .count) (a .from) (now (a .work)) (s .pre .0) (s .pre .1) (at .before .loop .inv) (at .loop-test .taken)
     (λ e. c .before .before .before .if1 .taken (c .before .before .before .before .formula-at .ensures ∙ e))
     (sym (c .if2 .taken) ∙ c .before .open-leaf .ensures ∙ ap (λ (v : ℕ). openByItself (shape v)) (c .before .before .word .ensures))
 
@@ -58,7 +58,7 @@ loop-again c =
     let at = o .before .before .before .before .before .before in
     let s = at .before .before .before in
     let a = s .args in
-    going-on (now (a .f)) (a .count) (a .from) (now (a .w)) (s .pre .0) (s .pre .1) (at .before .loop .inv) (at .loop-test .taken)
+    going-on (now (a .words)) (a .count) (a .from) (now (a .work)) (s .pre .0) (s .pre .1) (at .before .loop .inv) (at .loop-test .taken)
     (λ e. o .before .before .before .if1 .taken (o .before .before .before .before .formula-at .ensures ∙ e))
     (sym (o .if2 .left) ∙ o .before .open-leaf .ensures ∙ ap (λ (v : ℕ). openByItself (shape v)) (o .before .before .word .ensures))
     (search needs) (c .before .mark-parts .ensures)
@@ -71,7 +71,7 @@ loop-again-2 c =
     let at = c .before .before .before in
     let s = at .before .before .before in
     let a = s .args in
-    going-past (now (a .f)) (a .count) (a .from) (now (a .w)) (s .pre .0) (s .pre .1) (at .before .loop .inv) (at .loop-test .taken)
+    going-past (now (a .words)) (a .count) (a .from) (now (a .work)) (s .pre .0) (s .pre .1) (at .before .loop .inv) (at .loop-test .taken)
     (sym (c .before .formula-at .ensures) ∙ omega arith)
 
 same-length-2 : tie.Need-same-length-2 Inv-loop μ-loop
@@ -81,7 +81,7 @@ returns-2 : tie.Need-returns-2 Inv-loop μ-loop
 returns-2 c =
     let s = c .before .before .before in
     let a = s .args in
-    going-ends (now (a .f)) (a .count) (a .from) (now (a .w)) (s .pre .0) (s .pre .1) (c .before .loop .inv) (c .loop-test .left)
+    going-ends (now (a .words)) (a .count) (a .from) (now (a .work)) (s .pre .0) (s .pre .1) (c .before .loop .inv) (c .loop-test .left)
 
 pub marked-open-spec : {M : Type 1} → statement M
 marked-open-spec =

@@ -35,8 +35,8 @@ returns c =
     let p = m .before .before .before in
     let s = p .before .before .before in
     let a = s .args in
-    let b : Book = map shape (take (a .count) (now (a .f))) in
-    let k : ℕ = length (now (a .w)) in
+    let b : Book = map shape (take (a .count) (now (a .words))) in
+    let k : ℕ = length (now (a .work)) in
     let long : length (m .marked-open .last .1 .0) ≡ k = omega (arith, m .marked-open .kept, p .put .kept) in (
       m .marked-open .ensures
           ∙ ap₂ (λ (v : List Rec) (n : ℕ). someOpen b v n) (p .put .ensures ∙ ap (λ (v : List Rec). set v (a .goal) mark) (s .pre .1 .1))

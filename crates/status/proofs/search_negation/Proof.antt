@@ -11,14 +11,14 @@ add-if1 : tie.Need-add-if1
 add-if1 c =
     let s = c .before .before in
     let a = s .args in
-    let few = few-words (now (a .f)) (a .count) (a .goal) (now (a .t)) (now (a .w)) (a .steps) (s .pre .0) in
+    let few = few-words (now (a .words)) (a .count) (a .goal) (now (a .terms)) (now (a .work)) (a .steps) (s .pre .0) in
     search (needs, few)
 
 returns : tie.Need-returns
 returns c =
     let s = c .before .before .before in
     let a = s .args in (
-      no-room (now (a .f)) (a .count) (a .goal) (now (a .t)) (now (a .w)) (a .steps) (s .pre .0) (c .if1 .taken),
+      no-room (now (a .words)) (a .count) (a .goal) (now (a .terms)) (now (a .work)) (a .steps) (s .pre .0) (c .if1 .taken),
       (refl, s .pre .1),
     )
 
@@ -37,14 +37,14 @@ pack-requires-2 c κs = search needs
 store-requires-2 : tie.Need-store-requires-2
 store-requires-2 c κs = search needs
 
-add-search : tie.Need-add-search
-add-search c = search needs
+add-search-goal : tie.Need-add-search-goal
+add-search-goal c = search needs
 
-add-search-2 : tie.Need-add-search-2
-add-search-2 c = search needs
+add-search-goal-2 : tie.Need-add-search-goal-2
+add-search-goal-2 c = search needs
 
-search-requires : tie.Need-search-requires
-search-requires c κs = search needs
+search-goal-requires : tie.Need-search-goal-requires
+search-goal-requires c κs = search needs
 
 refuted-requires : tie.Need-refuted-requires
 refuted-requires c κs = search needs
@@ -66,10 +66,10 @@ returns-2 c =
     let i = d .before .before .before in
     let s = i .before .before .before in
     let a = s .args in
-    let words = appended (now (a .f)) (a .count) (a .goal) (now (a .t)) (now (a .w)) (a .steps) (s .pre .0) (i .if1 .left)
+    let words = appended (now (a .words)) (a .count) (a .goal) (now (a .terms)) (now (a .work)) (a .steps) (s .pre .0) (i .if1 .left)
     (d .before .pack .ensures) (b .before .pack2 .ensures) (d .store .ensures) (b .store2 .ensures) in
-    let r = second-answers (now (a .f)) (a .count) (a .goal) (now (a .t)) (now (a .w)) (a .steps) (s .pre .0) (i .if1 .left)
-    words (g .search .ensures) in
+    let r = second-answers (now (a .words)) (a .count) (a .goal) (now (a .terms)) (now (a .work)) (a .steps) (s .pre .0) (i .if1 .left)
+    words (g .search-goal .ensures) in
     (c .refuted .ensures ∙ r .0, (r .1, r .2))
 
 pub search-negation-spec : {M : Type 1} → statement M
@@ -83,9 +83,9 @@ search-negation-spec =
     add-store
     pack-requires-2
     store-requires-2
-    add-search
-    add-search-2
-    search-requires
+    add-search-goal
+    add-search-goal-2
+    search-goal-requires
     refuted-requires
     same-length
     same-length-2

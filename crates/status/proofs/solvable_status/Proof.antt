@@ -8,8 +8,8 @@ use Rattle.status.proofs.Whole.{answered-as, proved-solvable, ran-short
 use Rattle.status.proofs.solvable_status.Statement.{statement}
 use Rattle.status.proofs.solvable_status.Proof.Tie as tie
 
-search-requires : tie.Need-search-requires
-search-requires c κs = search needs
+search-goal-requires : tie.Need-search-goal-requires
+search-goal-requires c κs = search needs
 
 enum-told : tie.Need-enum-told
 enum-told c = search needs
@@ -25,7 +25,7 @@ unproved-requires c κs =
     let k = c .before .before .before in
     let h = k .before .before .before .before .before .before .before in
     let a = h .before .before .before .before .before .before .args in
-    failed-asks (now (a .f)) (a .count) (a .goal) (now (a .t)) (now (a .w)) (a .steps) (h .search .ensures) (sym (k .enum-told2 .given .1))
+    failed-asks (now (a .words)) (a .count) (a .goal) (now (a .terms)) (now (a .work)) (a .steps) (h .search-goal .ensures) (sym (k .enum-told2 .given .1))
 
 clean-requires-2 : tie.Need-clean-requires-2
 clean-requires-2 c κs = search needs
@@ -52,7 +52,7 @@ returns c =
     let h = k .before .before .before .before .before .before .before in
     let a = h .before .before .before .before .before .before .args in
     answered-as
-    (proved-solvable (now (a .f)) (a .count) (a .goal) (now (a .t)) (now (a .w)) (a .steps) (h .search .ensures)
+    (proved-solvable (now (a .words)) (a .count) (a .goal) (now (a .terms)) (now (a .work)) (a .steps) (h .search-goal .ensures)
     (sym (k .enum-told .given .1)))
     (e .clean .ensures .0) (e .clean .ensures .1)
 
@@ -74,7 +74,7 @@ returns-2 c =
     let a = h .before .before .before .before .before .before .args in
     let s = u .unproved .ensures in
     answered-as
-    (failed-answered (now (a .f)) (a .count) (a .goal) (now (a .t)) (now (a .w)) (a .steps) (h .search .ensures)
+    (failed-answered (now (a .words)) (a .count) (a .goal) (now (a .terms)) (now (a .work)) (a .steps) (h .search-goal .ensures)
     (sym (k .enum-told2 .given .1)) (u .unproved .last .0) (u .unproved .last .1 .1 .1 .0) (s .0)
     (record { room = omega (arith, u .unproved .kept); given = s .1 .0; numbers = omega (arith, u .unproved .kept) }) (s .1 .1))
     (e .clean2 .ensures .0) (e .clean2 .ensures .1)
@@ -92,7 +92,7 @@ returns-3 : tie.Need-returns-3
 returns-3 c =
     let h = c .before .before .before .before .before .before .before .before in
     let a = h .before .before .before .before .before .before .args in
-    ran-short (now (a .f)) (a .count) (a .goal) (now (a .t)) (now (a .w)) (a .steps) (h .search .ensures)
+    ran-short (now (a .words)) (a .count) (a .goal) (now (a .terms)) (now (a .work)) (a .steps) (h .search-goal .ensures)
     (sym (c .before .number .given .1))
 
 same-length-10 : tie.Need-same-length-10
@@ -108,14 +108,14 @@ returns-4 : tie.Need-returns-4
 returns-4 c =
     let h = c .before .before .before .before .before .before .before .before in
     let a = h .before .before .before .before .before .before .args in
-    was-refused (now (a .f)) (a .count) (a .goal) (now (a .t)) (now (a .w)) (a .steps) (h .search .ensures)
+    was-refused (now (a .words)) (a .count) (a .goal) (now (a .terms)) (now (a .work)) (a .steps) (h .search-goal .ensures)
     (sym (c .before .number2 .given .1))
 
 pub solvable-status-spec : {M : Type 1} → statement M
 solvable-status-spec =
     tie.close
     (tie.spec
-    search-requires
+    search-goal-requires
     enum-told
     clean-requires
     enum-told-2

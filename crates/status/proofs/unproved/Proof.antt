@@ -18,7 +18,7 @@ open-goal-requires : tie.Need-open-goal-requires
 open-goal-requires c κs =
     let s = c .before .before .before .before in
     let a = s .args in
-    let m = marks-ask (now (a .f)) (a .count) (a .goal) (now (a .t)) (now (a .w)) (a .steps) (s .pre .0) in
+    let m = marks-ask (now (a .words)) (a .count) (a .goal) (now (a .terms)) (now (a .work)) (a .steps) (s .pre .0) in
     (m .0, (m .1, s .pre .1))
 
 search-negation-requires : tie.Need-search-negation-requires
@@ -27,8 +27,8 @@ search-negation-requires c κs =
     let s = o .before .before .before .before .before in
     let a = s .args in
     let zero = o .open-goal .ensures .1 in
-    let long = ap length zero ∙ length-replicate (length (now (a .w))) zeroed in (
-      subst (λ (n : ℕ). refusal (firstClaim (inquiryOf (now (a .f)) (a .count) (a .goal) (now (a .t)) n (a .steps))) ≡ none)
+    let long = ap length zero ∙ length-replicate (length (now (a .work))) zeroed in (
+      subst (λ (n : ℕ). refusal (firstClaim (inquiryOf (now (a .words)) (a .count) (a .goal) (now (a .terms)) n (a .steps))) ≡ none)
           (sym long) (s .pre .0),
       zero ∙ ap (λ (n : ℕ). replicate n zeroed) (sym long),
     )
@@ -49,9 +49,9 @@ returns c =
     let o = t .before .before in
     let s = o .before .before .before .before .before in
     let a = s .args in
-    let long = ap length (o .open-goal .ensures .1) ∙ length-replicate (length (now (a .w))) zeroed in
+    let long = ap length (o .open-goal .ensures .1) ∙ length-replicate (length (now (a .work))) zeroed in
     let e = n .search-negation .ensures in (
-      goal-open (now (a .f)) (a .count) (a .goal) (now (a .t)) (now (a .w)) (a .steps) (s .pre .0)
+      goal-open (now (a .words)) (a .count) (a .goal) (now (a .terms)) (now (a .work)) (a .steps) (s .pre .0)
           (sym (t .if1 .taken) ∙ o .open-goal .ensures .0) long (e .0),
       (e .1 .0, e .1 .1 ∙ ap (λ (n : ℕ). replicate n zeroed) long),
     )
@@ -67,7 +67,7 @@ returns-2 c =
     let o = c .before .before in
     let s = o .before .before .before .before .before in
     let a = s .args in (
-      goal-closed (now (a .f)) (a .count) (a .goal) (now (a .t)) (now (a .w)) (a .steps) (s .pre .0)
+      goal-closed (now (a .words)) (a .count) (a .goal) (now (a .terms)) (now (a .work)) (a .steps) (s .pre .0)
           (sym (c .if1 .left) ∙ o .open-goal .ensures .0),
       (refl, o .open-goal .ensures .1),
     )

@@ -1,7 +1,7 @@
 -- Made by tools/records.py from the sources; antt refuses it where it is stale. Assumes nothing.
 use Rattle.context.proofs.Element
-use Rattle.context.proofs.Sequent
-use Rattle.context.proofs.Sequent.Laws
+use Rattle.meter.proofs.Sequent
+use Rattle.meter.proofs.Sequent.Laws
 use borrow.Fn.Kinds
 use borrow.Kind.MutSlice
 use borrow.Kind.Value

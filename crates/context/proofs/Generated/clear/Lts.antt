@@ -691,10 +691,10 @@ module _ (claims· : Claims) where
 
       module _ (κs : Lifetimes.Lfts 1) where
         pub record Args : Type 0 where
-          pub w : Kinds.Den {n = 1} κs (MutSlice.pMutS Element.row 0 tt)
+          pub work : Kinds.Den {n = 1} κs (MutSlice.pMutS Element.row 0 tt)
 
         abbrev pub dens : (a : Args) → Kinds.Dens κs ps
-        dens = λ a. (a .w, tt)
+        dens = λ a. (a .work, tt)
 
       abbrev pub m0 : (κs : Lifetimes.Lfts 1) → (args : Args κs) → Typed.Mo T0
       m0 = λ κs args. (tt, Enter.partsP κs 1 ps xs (dens κs args))
@@ -726,44 +726,44 @@ module _ (claims· : Claims) where
       Need-loop-holds = (c : Start) → Inv·0 (Row.get 1 (T2 .locals) (m1 (c .κs) (c .args)) .now) (Row.get 2 (T2 .locals) (m1 (c .κs) (c
           .args))) (Row.get 1 (T2 .locals) (m1 (c .κs) (c .args)) .now) (Row.get 2 (T2 .locals) (m1 (c .κs) (c .args)))
 
-      abbrev pub m2 : (before : Start) → (w : List.List (Element.row .Denot)) → (i : Rows.sc-here (Row.sInt Syntax.w64) .Mod) → Typed.Mo
-          T2
-      m2 = λ before w i. Row.set 2 y13 i (Row.setRow 1 y5 (T2 .locals)) (Row.set 1 y5 record {
-        ptr = Row.get 1 (T2 .locals) (m1 (before
-            .κs) (before .args)) .ptr;
+      abbrev pub m2 : (before : Start) → (work : List.List (Element.row .Denot)) → (i : Rows.sc-here (Row.sInt Syntax.w64) .Mod) →
+          Typed.Mo T2
+      m2 = λ before work i. Row.set 2 y13 i (Row.setRow 1 y5 (T2 .locals)) (Row.set 1 y5 record {
+        ptr = Row.get 1 (T2 .locals) (m1
+            (before .κs) (before .args)) .ptr;
         name = Row.get 1 (T2 .locals) (m1 (before .κs) (before .args)) .name;
-        now = w;
-      } (T2 .locals) (m1
-          (before .κs) (before .args)))
+        now = work;
+      } (T2
+          .locals) (m1 (before .κs) (before .args)))
 
-      abbrev W3 : (before : Start) → (w : List.List (Element.row .Denot)) → (i : Rows.sc-here (Row.sInt Syntax.w64) .Mod) → Typed.Want
-          O3
-      W3 = λ before w i. Typed.inLoop T2 O2 (Typed.Round T2 O2 put0 (λ u vs. Inv·0 (Row.get 1 (T2 .locals) u .now) (Row.get 2 (T2
+      abbrev W3 : (before : Start) → (work : List.List (Element.row .Denot)) → (i : Rows.sc-here (Row.sInt Syntax.w64) .Mod) →
+          Typed.Want O3
+      W3 = λ before work i. Typed.inLoop T2 O2 (Typed.Round T2 O2 put0 (λ u vs. Inv·0 (Row.get 1 (T2 .locals) u .now) (Row.get 2 (T2
           .locals) u) (vs .0) (vs .1)) (λ u vs. μ·0 (Row.get 1 (T2 .locals) u .now) (Row.get 2 (T2 .locals) u) (vs .0) (vs .1)) at17 (m1
-          (before .κs) (before .args)) (w, i)) (W2 (before .κs) (before .args))
+          (before .κs) (before .args)) (work, i)) (W2 (before .κs) (before .args))
 
-      abbrev pub m3 : (before : Start) → (w : List.List (Element.row .Denot)) → (i : Rows.sc-here (Row.sInt Syntax.w64) .Mod) → Typed.Mo
-          T4
-      m3 = λ before w i. s1 (m2 before w i)
+      abbrev pub m3 : (before : Start) → (work : List.List (Element.row .Denot)) → (i : Rows.sc-here (Row.sInt Syntax.w64) .Mod) →
+          Typed.Mo T4
+      m3 = λ before work i. s1 (m2 before work i)
 
-      abbrev pub m4 : (before : Start) → (w : List.List (Element.row .Denot)) → (i : Rows.sc-here (Row.sInt Syntax.w64) .Mod) → Typed.Mo
-          T5
-      m4 = λ before w i. s2 .next (m3 before w i)
+      abbrev pub m4 : (before : Start) → (work : List.List (Element.row .Denot)) → (i : Rows.sc-here (Row.sInt Syntax.w64) .Mod) →
+          Typed.Mo T5
+      m4 = λ before work i. s2 .next (m3 before work i)
 
-      abbrev W4 : (before : Start) → (w : List.List (Element.row .Denot)) → (i : Rows.sc-here (Row.sInt Syntax.w64) .Mod) → Typed.Want
-          O4
-      W4 = λ before w i. Typed.wantNext T6 O3 (at14 (W3 before w i)) (W3 before w i)
+      abbrev W4 : (before : Start) → (work : List.List (Element.row .Denot)) → (i : Rows.sc-here (Row.sInt Syntax.w64) .Mod) →
+          Typed.Want O4
+      W4 = λ before work i. Typed.wantNext T6 O3 (at14 (W3 before work i)) (W3 before work i)
 
-      abbrev pub m5 : (before : Start) → (w : List.List (Element.row .Denot)) → (i : Rows.sc-here (Row.sInt Syntax.w64) .Mod) → Typed.Mo
-          T7
-      m5 = λ before w i. s3 (m4 before w i)
+      abbrev pub m5 : (before : Start) → (work : List.List (Element.row .Denot)) → (i : Rows.sc-here (Row.sInt Syntax.w64) .Mod) →
+          Typed.Mo T7
+      m5 = λ before work i. s3 (m4 before work i)
 
       module _ (before· : Start) where
         pub record At-loop·own : Type 0 where
-          pub w : List.List (Element.row .Denot)
+          pub work : List.List (Element.row .Denot)
           pub i : Rows.sc-here (Row.sInt Syntax.w64) .Mod
           pub inv : Inv·0 (Row.get 1 (T2 .locals) (m1 (before· .κs) (before· .args)) .now) (Row.get 2 (T2 .locals) (m1 (before· .κs)
-              (before· .args))) w i
+              (before· .args))) work i
 
       pub record At-loop : Type 0 where
         pub before : Start
@@ -771,27 +771,27 @@ module _ (claims· : Claims) where
 
       module _ (before· : At-loop) where
         pub record In-loop·own : Type 0 where
-          pub taken : Nat._<_ (Row.get 2 (T4 .locals) (m3 (before· .before) (before· .loop .w) (before· .loop .i))) (Row.get 3 (T4
-              .locals) (m3 (before· .before) (before· .loop .w) (before· .loop .i)))
+          pub taken : Nat._<_ (Row.get 2 (T4 .locals) (m3 (before· .before) (before· .loop .work) (before· .loop .i))) (Row.get 3 (T4
+              .locals) (m3 (before· .before) (before· .loop .work) (before· .loop .i)))
 
       pub record In-loop : Type 0 where
         pub before : At-loop
         pub loop-test : In-loop·own before
 
       abbrev pub m6 : (before : At-loop) → Typed.Mo T8
-      m6 = λ before. s4 (m5 (before .before) (before .loop .w) (before .loop .i))
+      m6 = λ before. s4 (m5 (before .before) (before .loop .work) (before .loop .i))
 
       module _ (before· : At-loop) where
         pub record After-loop·own : Type 0 where
-          pub left : Nat._≤_ (Row.get 3 (T4 .locals) (m3 (before· .before) (before· .loop .w) (before· .loop .i))) (Row.get 2 (T4
-              .locals) (m3 (before· .before) (before· .loop .w) (before· .loop .i)))
+          pub left : Nat._≤_ (Row.get 3 (T4 .locals) (m3 (before· .before) (before· .loop .work) (before· .loop .i))) (Row.get 2 (T4
+              .locals) (m3 (before· .before) (before· .loop .work) (before· .loop .i)))
 
       pub record After-loop : Type 0 where
         pub before : At-loop
         pub loop-test : After-loop·own before
 
       abbrev pub m7 : (before : At-loop) → Typed.Mo T9
-      m7 = λ before. s5 (m5 (before .before) (before .loop .w) (before .loop .i))
+      m7 = λ before. s5 (m5 (before .before) (before .loop .work) (before .loop .i))
 
       abbrev pub m8 : (before : In-loop) → (given : s7 .gives (m6 (before .before))) → Typed.Mo T11
       m8 = λ before given. s7 .next (m6 (before .before)) given
@@ -839,33 +839,33 @@ module _ (claims· : Claims) where
       m12 = λ before given. s12 .next (m11 (before .before) (After-write·gave before)) given
 
       module _ (before· : After-write) where
-        pub record After-w·own : Type 0 where
+        pub record After-work·own : Type 0 where
           pub given : s12 .gives (m11 (before· .before) (After-write·gave before·))
 
-      pub record After-w : Type 0 where
+      pub record After-work : Type 0 where
         pub before : After-write
-        pub w : After-w·own before
+        pub work : After-work·own before
 
       abbrev pub Need-add-i : Type 0
-      Need-add-i = (c : After-w) → s14 .asks (m12 (c .before) (c .w .given))
+      Need-add-i = (c : After-work) → s14 .asks (m12 (c .before) (c .work .given))
 
       abbrev pub m13 : (before : After-write) → (given : s12 .gives (m11 (before .before) (After-write·gave before))) → Typed.Mo T18
       m13 = λ before given. s14 .next (m12 before given)
 
       abbrev pub Need-loop-less : Type 0
-      Need-loop-less = (c : After-w) → Nat._<_ (μ·0 (Row.get 1 (T2 .locals) (m1 (c .before .before .before .before .before .κs) (c
+      Need-loop-less = (c : After-work) → Nat._<_ (μ·0 (Row.get 1 (T2 .locals) (m1 (c .before .before .before .before .before .κs) (c
           .before .before .before .before .before .args)) .now) (Row.get 2 (T2 .locals) (m1 (c .before .before .before .before .before
-          .κs) (c .before .before .before .before .before .args))) (Row.get 1 (T2 .locals) (m13 (c .before) (c .w .given)) .now)
-          (Row.get 2 (T2 .locals) (m13 (c .before) (c .w .given)))) (μ·0 (Row.get 1 (T2 .locals) (m1 (c .before .before .before .before
-          .before .κs) (c .before .before .before .before .before .args)) .now) (Row.get 2 (T2 .locals) (m1 (c .before .before .before
-          .before .before .κs) (c .before .before .before .before .before .args))) (c .before .before .before .before .loop .w) (c
-          .before .before .before .before .loop .i))
+          .κs) (c .before .before .before .before .before .args))) (Row.get 1 (T2 .locals) (m13 (c .before) (c .work .given)) .now)
+          (Row.get 2 (T2 .locals) (m13 (c .before) (c .work .given)))) (μ·0 (Row.get 1 (T2 .locals) (m1 (c .before .before .before
+          .before .before .κs) (c .before .before .before .before .before .args)) .now) (Row.get 2 (T2 .locals) (m1 (c .before .before
+          .before .before .before .κs) (c .before .before .before .before .before .args))) (c .before .before .before .before .loop
+          .work) (c .before .before .before .before .loop .i))
 
       abbrev pub Need-loop-again : Type 0
-      Need-loop-again = (c : After-w) → Inv·0 (Row.get 1 (T2 .locals) (m1 (c .before .before .before .before .before .κs) (c .before
+      Need-loop-again = (c : After-work) → Inv·0 (Row.get 1 (T2 .locals) (m1 (c .before .before .before .before .before .κs) (c .before
           .before .before .before .before .args)) .now) (Row.get 2 (T2 .locals) (m1 (c .before .before .before .before .before .κs) (c
-          .before .before .before .before .before .args))) (Row.get 1 (T2 .locals) (m13 (c .before) (c .w .given)) .now) (Row.get 2 (T2
-          .locals) (m13 (c .before) (c .w .given)))
+          .before .before .before .before .before .args))) (Row.get 1 (T2 .locals) (m13 (c .before) (c .work .given)) .now) (Row.get 2
+          (T2 .locals) (m13 (c .before) (c .work .given)))
 
       abbrev pub m14 : (before : At-loop) → Typed.Mo T19
       m14 = λ before. s15 (m7 before)
@@ -897,32 +897,32 @@ module _ (claims· : Claims) where
               { before = c .before; loop-test = c .loop-test },
         )
 
-        lay4 : (c : After-write) → at10 (W3 (c .before .before .before .before) (c .before .before .before .loop .w) (c .before .before
-            .before .loop .i)) (m10 (c .before) (After-write·gave c))
+        lay4 : (c : After-write) → at10 (W3 (c .before .before .before .before) (c .before .before .before .loop .work) (c .before
+            .before .before .loop .i)) (m10 (c .before) (After-write·gave c))
         lay4 = λ c. (
           Path'.refl,
           λ g. (
             add-i record
-                { before = record { before = c .before; write = c .write }; w = record { given = g } },
+                { before = record { before = c .before; write = c .write }; work = record { given = g } },
             (
-              μ·0 (Row.get 1 (T2 .locals) (m1 (c
-                  .before .before .before .before .κs) (c .before .before .before .before .args)) .now) (Row.get 2 (T2 .locals) (m1 (c .before
-                  .before .before .before .κs) (c .before .before .before .before .args))) (Row.get 1 (T2 .locals) (m13 record
+              μ·0 (Row.get 1 (T2 .locals) (m1
+                  (c .before .before .before .before .κs) (c .before .before .before .before .args)) .now) (Row.get 2 (T2 .locals) (m1 (c
+                  .before .before .before .before .κs) (c .before .before .before .before .args))) (Row.get 1 (T2 .locals) (m13 record
                   { before = c .before; write = c .write } g) .now) (Row.get 2 (T2 .locals) (m13 record
                   { before = c .before; write = c .write } g)),
               loop-less record
-                  { before = record { before = c .before; write = c .write }; w = record { given = g } },
+                  { before = record { before = c .before; write = c .write }; work = record { given = g } },
               (
                 (
-                  Row.get 1 (T2 .locals) (m13 record
-                      { before = c .before; write = c .write } g) .now,
+                  Row.get 1 (T2 .locals) (m13
+                      record { before = c .before; write = c .write } g) .now,
                   Row.get 2 (T2 .locals) (m13 record
                       { before = c .before; write = c .write } g),
                 ),
                 Path'.refl {a = m13 record { before = c .before; write = c .write } g},
-                loop-again record { before = record { before = c .before; write = c .write }; w = record { given = g } },
-                Path'.refl {a =
-                    μ·0 (Row.get 1 (T2 .locals) (m1 (c .before .before .before .before .κs) (c .before .before .before .before .args)) .now)
+                loop-again record { before = record { before = c .before; write = c .write }; work = record { given = g } },
+                Path'.refl {a
+                    = μ·0 (Row.get 1 (T2 .locals) (m1 (c .before .before .before .before .κs) (c .before .before .before .before .args)) .now)
                     (Row.get 2 (T2 .locals) (m1 (c .before .before .before .before .κs) (c .before .before .before .before .args))) (Row.get 1
                     (T2 .locals) (m13 record { before = c .before; write = c .write } g) .now) (Row.get 2 (T2 .locals) (m13 record
                     { before = c .before; write = c .write } g))},
@@ -931,7 +931,7 @@ module _ (claims· : Claims) where
           ),
         )
 
-        lay3 : (c : In-loop) → at14 (W3 (c .before .before) (c .before .loop .w) (c .before .loop .i)) (m6 (c .before))
+        lay3 : (c : In-loop) → at14 (W3 (c .before .before) (c .before .loop .work) (c .before .loop .i)) (m6 (c .before))
         lay3 = λ c. λ g. (
           Path'.refl,
           (
@@ -948,12 +948,12 @@ module _ (claims· : Claims) where
           ),
         )
 
-        lay2 : (c : After-loop) → at3 (W4 (c .before .before) (c .before .loop .w) (c .before .loop .i)) (m5 (c .before .before) (c
-            .before .loop .w) (c .before .loop .i))
+        lay2 : (c : After-loop) → at3 (W4 (c .before .before) (c .before .loop .work) (c .before .loop .i)) (m5 (c .before .before) (c
+            .before .loop .work) (c .before .loop .i))
         lay2 = λ c. lay5 record { before = c .before; loop-test = c .loop-test }
 
-        lay1 : (c : In-loop) → at1 (W4 (c .before .before) (c .before .loop .w) (c .before .loop .i)) (m5 (c .before .before) (c .before
-            .loop .w) (c .before .loop .i))
+        lay1 : (c : In-loop) → at1 (W4 (c .before .before) (c .before .loop .work) (c .before .loop .i)) (m5 (c .before .before) (c
+            .before .loop .work) (c .before .loop .i))
         lay1 = λ c. lay3 record { before = c .before; loop-test = c .loop-test }
 
         pub laid : (c : Start) → at24 (W0 (c .κs) (c .args)) (m0 (c .κs) (c .args))
@@ -969,7 +969,7 @@ module _ (claims· : Claims) where
             (
               λ taken. lay1 record {
                 before = record
-                    { before = c; loop = record { w = vs .0; i = vs .1; inv = inv } };
+                    { before = c; loop = record { work = vs .0; i = vs .1; inv = inv } };
                 loop-test = record {
                   taken = Tests.ltb-true (Row.get 2
                       (T4 .locals) (m3 c (vs .0) (vs .1))) (Row.get 3 (T4 .locals) (m3 c (vs .0) (vs .1))) taken;
@@ -977,7 +977,7 @@ module _ (claims· : Claims) where
               },
               λ left. lay2 record {
                 before
-                    = record { before = c; loop = record { w = vs .0; i = vs .1; inv = inv } };
+                    = record { before = c; loop = record { work = vs .0; i = vs .1; inv = inv } };
                 loop-test = record {
                   left = Tests.ltb-false
                       (Row.get 2 (T4 .locals) (m3 c (vs .0) (vs .1))) (Row.get 3 (T4 .locals) (m3 c (vs .0) (vs .1))) left;
@@ -990,7 +990,7 @@ module _ (claims· : Claims) where
         module _ (κs : Lifetimes.Lfts 1) (qs : Lifetimes.Shares 1) where
           pub asked : (a : Kinds.Dens κs ps) → (good : Kinds.GoodsP κs ps a) → (pre : Pre· κs a) → (bs : List.List Nat.ℕ) → Φ (Any.wantQ
               1 ps r xs m κs qs a (Post· κs a)) (Function.init 1 ps r xs m κs qs a)
-          asked = λ a good pre bs. laid record { κs = κs; args = record { w = a .0 }; good = good; pre = pre }
+          asked = λ a good pre bs. laid record { κs = κs; args = record { work = a .0 }; good = good; pre = pre }
 
         module _ {M : Type 1} (𝓤 : URA.URA M) (H : Wp.Heap 𝓤) (A : Atoms.Atoms 𝓤) (W : Kit.Given 𝓤 H A) (𝓣 : Wp.Tables 𝓤 H) (known0 :
             Plain.Known 𝓤 H A W 𝓣 1 ps·0 r·0 (claims· .0) (claims· .1) "context::write") where

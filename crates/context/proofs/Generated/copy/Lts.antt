@@ -891,12 +891,12 @@ module _ (claims· : Claims) where
 
       module _ (κs : Lifetimes.Lfts 1) where
         pub record Args : Type 0 where
-          pub w : Kinds.Den {n = 1} κs (MutSlice.pMutS Element.row 0 tt)
+          pub work : Kinds.Den {n = 1} κs (MutSlice.pMutS Element.row 0 tt)
           pub i : Kinds.Den {n = 1} κs (Num.pNum Syntax.w64)
           pub j : Kinds.Den {n = 1} κs (Num.pNum Syntax.w64)
 
         abbrev pub dens : (a : Args) → Kinds.Dens κs ps
-        dens = λ a. (a .w, (a .i, (a .j, tt)))
+        dens = λ a. (a .work, (a .i, (a .j, tt)))
 
         module _ (args· : Args) where
           pub record Ranges : Type 0 where
@@ -1061,12 +1061,12 @@ module _ (claims· : Claims) where
       m15 = λ before given. s19 .next (m14 (before .before) (After-write·gave before)) given
 
       module _ (before· : After-write) where
-        pub record After-w·own : Type 0 where
+        pub record After-work·own : Type 0 where
           pub given : s19 .gives (m14 (before· .before) (After-write·gave before·))
 
-      pub record After-w : Type 0 where
+      pub record After-work : Type 0 where
         pub before : After-write
-        pub w : After-w·own before
+        pub work : After-work·own before
 
       module _ (before· : After-read) where
         pub record Else1·own : Type 0 where
@@ -1093,17 +1093,17 @@ module _ (claims· : Claims) where
       m20 = λ before given. s25 (m19 before given)
 
       abbrev pub Need-same-length : Type 0
-      Need-same-length = (c : After-w) → MutSlice.SameLen (Row.get 1 (T28 .locals) (m20 (c .before) (c .w .given))) (dens (c .before
-          .before .before .before .before .before .κs) (c .before .before .before .before .before .before .args) .0)
+      Need-same-length = (c : After-work) → MutSlice.SameLen (Row.get 1 (T28 .locals) (m20 (c .before) (c .work .given))) (dens (c
+          .before .before .before .before .before .before .κs) (c .before .before .before .before .before .before .args) .0)
 
       abbrev pub Need-returns : Type 0
-      Need-returns = (c : After-w) → Post· (c .before .before .before .before .before .before .κs) (dens (c .before .before .before
+      Need-returns = (c : After-work) → Post· (c .before .before .before .before .before .before .κs) (dens (c .before .before .before
           .before .before .before .κs) (c .before .before .before .before .before .before .args)) (Function.resV r (c .before .before
-          .before .before .before .before .κs) (m20 (c .before) (c .w .given) .0)) (Clauses.atExit (Kinds.endedOf 1 ps r) (c .before
+          .before .before .before .before .κs) (m20 (c .before) (c .work .given) .0)) (Clauses.atExit (Kinds.endedOf 1 ps r) (c .before
           .before .before .before .before .before .κs) (dens (c .before .before .before .before .before .before .κs) (c .before .before
           .before .before .before .before .args)) (Enter.lastsP (c .before .before .before .before .before .before .κs) 1 ps xs (dens (c
           .before .before .before .before .before .before .κs) (c .before .before .before .before .before .before .args)) (m20 (c
-          .before) (c .w .given) .1)))
+          .before) (c .work .given) .1)))
 
       abbrev pub m21 : (before : After-read) → Typed.Mo T26
       m21 = λ before. s23 (m17 before)
@@ -1139,17 +1139,17 @@ module _ (claims· : Claims) where
               { before = c .before; if1 = c .if1 },
         )
 
-        lay4 : (c : After-w) → at13 (W0 (c .before .before .before .before .before .before .κs) (c .before .before .before .before
-            .before .before .args)) (m15 (c .before) (c .w .given))
+        lay4 : (c : After-work) → at13 (W0 (c .before .before .before .before .before .before .κs) (c .before .before .before .before
+            .before .before .args)) (m15 (c .before) (c .work .given))
         lay4 = λ c. (
           (
-            MutSlice.fix-len (Row.get 1 (T28 .locals) (m20 (c .before) (c .w .given)) .ptr) (Row.get 1 (T28 .locals) (m20 (c
-                .before) (c .w .given)) .name) (Row.get 1 (T28 .locals) (m20 (c .before) (c .w .given)) .now) (dens (c .before .before
-                .before .before .before .before .κs) (c .before .before .before .before .before .before .args) .0 .now) (same-length record
-                { before = c .before; w = c .w }),
+            MutSlice.fix-len (Row.get 1 (T28 .locals) (m20 (c .before) (c .work .given)) .ptr) (Row.get 1 (T28 .locals) (m20
+                (c .before) (c .work .given)) .name) (Row.get 1 (T28 .locals) (m20 (c .before) (c .work .given)) .now) (dens (c .before
+                .before .before .before .before .before .κs) (c .before .before .before .before .before .before .args) .0 .now) (same-length
+                record { before = c .before; work = c .work }),
             (tt, (tt, tt)),
           ),
-          returns record { before = c .before; w = c .w },
+          returns record { before = c .before; work = c .work },
         )
 
         lay3 : (c : Else1) → at7 (W1 (c .before .before) (After-read·gave (c .before))) (m8 (c .before .before) (After-read·gave (c
@@ -1184,7 +1184,7 @@ module _ (claims· : Claims) where
                           ) (m11 record
                           { before = c .before; if1 = c .if1 } g) g';
                     };
-                    w = record { given = g'' };
+                    work = record { given = g'' };
                   },
             ),
           ),
@@ -1234,10 +1234,10 @@ module _ (claims· : Claims) where
               1 ps r xs m κs qs a (Post· κs a)) (Function.init 1 ps r xs m κs qs a)
           asked = λ a good pre bs. laid record {
             κs = κs;
-            args = record { w = a .0; i = a .1 .0; j = a .1 .1 .0 };
+            args = record { work = a .0; i = a .1 .0; j = a .1 .1 .0 };
             good = good;
-            fits =
-                record { i = record { fits = good .1 .0 .1 }; j = record { fits = good .1 .1 .0 .1 } };
+            fits
+                = record { i = record { fits = good .1 .0 .1 }; j = record { fits = good .1 .1 .0 .1 } };
             pre = pre;
           }
 

@@ -841,12 +841,12 @@ module _ (claims· : Claims) where
 
       module _ (κs : Lifetimes.Lfts 1) where
         pub record Args : Type 0 where
-          pub w : Kinds.Den {n = 1} κs (MutSlice.pMutS Element.row 0 tt)
+          pub work : Kinds.Den {n = 1} κs (MutSlice.pMutS Element.row 0 tt)
           pub i : Kinds.Den {n = 1} κs (Num.pNum Syntax.w64)
           pub n : Kinds.Den {n = 1} κs (Num.pNum Syntax.w64)
 
         abbrev pub dens : (a : Args) → Kinds.Dens κs ps
-        dens = λ a. (a .w, (a .i, (a .n, tt)))
+        dens = λ a. (a .work, (a .i, (a .n, tt)))
 
         module _ (args· : Args) where
           pub record Ranges : Type 0 where
@@ -889,40 +889,40 @@ module _ (claims· : Claims) where
           .locals) (m2 (c .κs) (c .args))) (Row.get 1 (T3 .locals) (m2 (c .κs) (c .args)) .now) (Row.get 4 (T3 .locals) (m2 (c .κs) (c
           .args))) (Row.get 5 (T3 .locals) (m2 (c .κs) (c .args)))
 
-      abbrev pub m3 : (before : Start) → (w : List.List (Element.row .Denot)) → (j : Rows.sc-here (Row.sInt Syntax.w64) .Mod) → (left :
-          Rows.sc-here (Row.sInt Syntax.w64) .Mod) → Typed.Mo T3
-      m3 = λ before w j left. Row.set 5 y18 left (Row.setRow 4 y17 (Row.setRow 1 y5 (T3 .locals))) (Row.set 4 y17 j (Row.setRow 1 y5 (T3
-          .locals)) (Row.set 1 y5 record {
+      abbrev pub m3 : (before : Start) → (work : List.List (Element.row .Denot)) → (j : Rows.sc-here (Row.sInt Syntax.w64) .Mod) → (left
+          : Rows.sc-here (Row.sInt Syntax.w64) .Mod) → Typed.Mo T3
+      m3 = λ before work j left. Row.set 5 y18 left (Row.setRow 4 y17 (Row.setRow 1 y5 (T3 .locals))) (Row.set 4 y17 j (Row.setRow 1 y5
+          (T3 .locals)) (Row.set 1 y5 record {
             ptr = Row.get 1 (T3 .locals) (m2 (before .κs) (before .args)) .ptr;
             name = Row.get 1 (T3
                 .locals) (m2 (before .κs) (before .args)) .name;
-            now = w;
+            now = work;
           } (T3 .locals) (m2 (before .κs) (before .args))))
 
-      abbrev W3 : (before : Start) → (w : List.List (Element.row .Denot)) → (j : Rows.sc-here (Row.sInt Syntax.w64) .Mod) → (left :
+      abbrev W3 : (before : Start) → (work : List.List (Element.row .Denot)) → (j : Rows.sc-here (Row.sInt Syntax.w64) .Mod) → (left :
           Rows.sc-here (Row.sInt Syntax.w64) .Mod) → Typed.Want O3
-      W3 = λ before w j left. Typed.inLoop T3 O2 (Typed.Round T3 O2 put0 (λ u vs. Inv·0 (Row.get 1 (T3 .locals) u .now) (Row.get 2 (T3
-          .locals) u) (Row.get 3 (T3 .locals) u) (Row.get 4 (T3 .locals) u) (Row.get 5 (T3 .locals) u) (vs .0) (vs .1) (vs .2)) (λ u vs.
-          μ·0 (Row.get 1 (T3 .locals) u .now) (Row.get 2 (T3 .locals) u) (Row.get 3 (T3 .locals) u) (Row.get 4 (T3 .locals) u) (Row.get
-          5 (T3 .locals) u) (vs .0) (vs .1) (vs .2)) at18 (m2 (before .κs) (before .args)) (w, j, left)) (W2 (before .κs) (before
-          .args))
+      W3 = λ before work j left. Typed.inLoop T3 O2 (Typed.Round T3 O2 put0 (λ u vs. Inv·0 (Row.get 1 (T3 .locals) u .now) (Row.get 2
+          (T3 .locals) u) (Row.get 3 (T3 .locals) u) (Row.get 4 (T3 .locals) u) (Row.get 5 (T3 .locals) u) (vs .0) (vs .1) (vs .2)) (λ u
+          vs. μ·0 (Row.get 1 (T3 .locals) u .now) (Row.get 2 (T3 .locals) u) (Row.get 3 (T3 .locals) u) (Row.get 4 (T3 .locals) u)
+          (Row.get 5 (T3 .locals) u) (vs .0) (vs .1) (vs .2)) at18 (m2 (before .κs) (before .args)) (work, j, left)) (W2 (before .κs)
+          (before .args))
 
-      abbrev pub m4 : (before : Start) → (w : List.List (Element.row .Denot)) → (j : Rows.sc-here (Row.sInt Syntax.w64) .Mod) → (left :
-          Rows.sc-here (Row.sInt Syntax.w64) .Mod) → Typed.Mo T5
-      m4 = λ before w j left. s2 .next (m3 before w j left)
+      abbrev pub m4 : (before : Start) → (work : List.List (Element.row .Denot)) → (j : Rows.sc-here (Row.sInt Syntax.w64) .Mod) → (left
+          : Rows.sc-here (Row.sInt Syntax.w64) .Mod) → Typed.Mo T5
+      m4 = λ before work j left. s2 .next (m3 before work j left)
 
-      abbrev W4 : (before : Start) → (w : List.List (Element.row .Denot)) → (j : Rows.sc-here (Row.sInt Syntax.w64) .Mod) → (left :
+      abbrev W4 : (before : Start) → (work : List.List (Element.row .Denot)) → (j : Rows.sc-here (Row.sInt Syntax.w64) .Mod) → (left :
           Rows.sc-here (Row.sInt Syntax.w64) .Mod) → Typed.Want O4
-      W4 = λ before w j left. Typed.wantNext T6 O3 (at16 (W3 before w j left)) (W3 before w j left)
+      W4 = λ before work j left. Typed.wantNext T6 O3 (at16 (W3 before work j left)) (W3 before work j left)
 
       module _ (before· : Start) where
         pub record At-loop·own : Type 0 where
-          pub w : List.List (Element.row .Denot)
+          pub work : List.List (Element.row .Denot)
           pub j : Rows.sc-here (Row.sInt Syntax.w64) .Mod
           pub left : Rows.sc-here (Row.sInt Syntax.w64) .Mod
           pub inv : Inv·0 (Row.get 1 (T3 .locals) (m2 (before· .κs) (before· .args)) .now) (Row.get 2 (T3 .locals) (m2 (before· .κs)
               (before· .args))) (Row.get 3 (T3 .locals) (m2 (before· .κs) (before· .args))) (Row.get 4 (T3 .locals) (m2 (before· .κs)
-              (before· .args))) (Row.get 5 (T3 .locals) (m2 (before· .κs) (before· .args))) w j left
+              (before· .args))) (Row.get 5 (T3 .locals) (m2 (before· .κs) (before· .args))) work j left
 
       pub record At-loop : Type 0 where
         pub before : Start
@@ -930,7 +930,7 @@ module _ (claims· : Claims) where
 
       module _ (before· : At-loop) where
         pub record In-loop·own : Type 0 where
-          pub taken : Nat._<_ 0 (Row.get 5 (T3 .locals) (m3 (before· .before) (before· .loop .w) (before· .loop .j) (before· .loop
+          pub taken : Nat._<_ 0 (Row.get 5 (T3 .locals) (m3 (before· .before) (before· .loop .work) (before· .loop .j) (before· .loop
               .left)))
 
       pub record In-loop : Type 0 where
@@ -938,19 +938,19 @@ module _ (claims· : Claims) where
         pub loop-test : In-loop·own before
 
       abbrev pub m5 : (before : At-loop) → Typed.Mo T7
-      m5 = λ before. s3 (m4 (before .before) (before .loop .w) (before .loop .j) (before .loop .left))
+      m5 = λ before. s3 (m4 (before .before) (before .loop .work) (before .loop .j) (before .loop .left))
 
       module _ (before· : At-loop) where
         pub record After-loop·own : Type 0 where
-          pub left : Nat._≤_ (Row.get 5 (T3 .locals) (m3 (before· .before) (before· .loop .w) (before· .loop .j) (before· .loop .left)))
-              0
+          pub left : Nat._≤_ (Row.get 5 (T3 .locals) (m3 (before· .before) (before· .loop .work) (before· .loop .j) (before· .loop
+              .left))) 0
 
       pub record After-loop : Type 0 where
         pub before : At-loop
         pub loop-test : After-loop·own before
 
       abbrev pub m6 : (before : At-loop) → Typed.Mo T8
-      m6 = λ before. s4 (m4 (before .before) (before .loop .w) (before .loop .j) (before .loop .left))
+      m6 = λ before. s4 (m4 (before .before) (before .loop .work) (before .loop .j) (before .loop .left))
 
       abbrev pub m7 : (before : In-loop) → (given : s6 .gives (m5 (before .before))) → Typed.Mo T10
       m7 = λ before given. s6 .next (m5 (before .before)) given
@@ -1007,49 +1007,49 @@ module _ (claims· : Claims) where
       m13 = λ before given. s13 .next (m12 (before .before) (After-copy·gave before)) given
 
       module _ (before· : After-copy) where
-        pub record After-w·own : Type 0 where
+        pub record After-work·own : Type 0 where
           pub given : s13 .gives (m12 (before· .before) (After-copy·gave before·))
 
-      pub record After-w : Type 0 where
+      pub record After-work : Type 0 where
         pub before : After-copy
-        pub w : After-w·own before
+        pub work : After-work·own before
 
       abbrev pub Need-add-j : Type 0
-      Need-add-j = (c : After-w) → s15 .asks (m13 (c .before) (c .w .given))
+      Need-add-j = (c : After-work) → s15 .asks (m13 (c .before) (c .work .given))
 
       abbrev pub m14 : (before : After-copy) → (given : s13 .gives (m12 (before .before) (After-copy·gave before))) → Typed.Mo T19
       m14 = λ before given. s15 .next (m13 before given)
 
       abbrev pub Need-sub-left : Type 0
-      Need-sub-left = (c : After-w) → s16 .asks (m14 (c .before) (c .w .given))
+      Need-sub-left = (c : After-work) → s16 .asks (m14 (c .before) (c .work .given))
 
       abbrev pub m15 : (before : After-copy) → (given : s13 .gives (m12 (before .before) (After-copy·gave before))) → Typed.Mo T20
       m15 = λ before given. s16 .next (m14 before given)
 
       abbrev pub Need-loop-less : Type 0
-      Need-loop-less = (c : After-w) → Nat._<_ (μ·0 (Row.get 1 (T3 .locals) (m2 (c .before .before .before .before .before .κs) (c
+      Need-loop-less = (c : After-work) → Nat._<_ (μ·0 (Row.get 1 (T3 .locals) (m2 (c .before .before .before .before .before .κs) (c
           .before .before .before .before .before .args)) .now) (Row.get 2 (T3 .locals) (m2 (c .before .before .before .before .before
           .κs) (c .before .before .before .before .before .args))) (Row.get 3 (T3 .locals) (m2 (c .before .before .before .before
           .before .κs) (c .before .before .before .before .before .args))) (Row.get 4 (T3 .locals) (m2 (c .before .before .before
           .before .before .κs) (c .before .before .before .before .before .args))) (Row.get 5 (T3 .locals) (m2 (c .before .before
           .before .before .before .κs) (c .before .before .before .before .before .args))) (Row.get 1 (T3 .locals) (m15 (c .before) (c
-          .w .given)) .now) (Row.get 4 (T3 .locals) (m15 (c .before) (c .w .given))) (Row.get 5 (T3 .locals) (m15 (c .before) (c .w
-          .given)))) (μ·0 (Row.get 1 (T3 .locals) (m2 (c .before .before .before .before .before .κs) (c .before .before .before .before
-          .before .args)) .now) (Row.get 2 (T3 .locals) (m2 (c .before .before .before .before .before .κs) (c .before .before .before
-          .before .before .args))) (Row.get 3 (T3 .locals) (m2 (c .before .before .before .before .before .κs) (c .before .before
-          .before .before .before .args))) (Row.get 4 (T3 .locals) (m2 (c .before .before .before .before .before .κs) (c .before
-          .before .before .before .before .args))) (Row.get 5 (T3 .locals) (m2 (c .before .before .before .before .before .κs) (c
-          .before .before .before .before .before .args))) (c .before .before .before .before .loop .w) (c .before .before .before
+          .work .given)) .now) (Row.get 4 (T3 .locals) (m15 (c .before) (c .work .given))) (Row.get 5 (T3 .locals) (m15 (c .before) (c
+          .work .given)))) (μ·0 (Row.get 1 (T3 .locals) (m2 (c .before .before .before .before .before .κs) (c .before .before .before
+          .before .before .args)) .now) (Row.get 2 (T3 .locals) (m2 (c .before .before .before .before .before .κs) (c .before .before
+          .before .before .before .args))) (Row.get 3 (T3 .locals) (m2 (c .before .before .before .before .before .κs) (c .before
+          .before .before .before .before .args))) (Row.get 4 (T3 .locals) (m2 (c .before .before .before .before .before .κs) (c
+          .before .before .before .before .before .args))) (Row.get 5 (T3 .locals) (m2 (c .before .before .before .before .before .κs)
+          (c .before .before .before .before .before .args))) (c .before .before .before .before .loop .work) (c .before .before .before
           .before .loop .j) (c .before .before .before .before .loop .left))
 
       abbrev pub Need-loop-again : Type 0
-      Need-loop-again = (c : After-w) → Inv·0 (Row.get 1 (T3 .locals) (m2 (c .before .before .before .before .before .κs) (c .before
+      Need-loop-again = (c : After-work) → Inv·0 (Row.get 1 (T3 .locals) (m2 (c .before .before .before .before .before .κs) (c .before
           .before .before .before .before .args)) .now) (Row.get 2 (T3 .locals) (m2 (c .before .before .before .before .before .κs) (c
           .before .before .before .before .before .args))) (Row.get 3 (T3 .locals) (m2 (c .before .before .before .before .before .κs)
           (c .before .before .before .before .before .args))) (Row.get 4 (T3 .locals) (m2 (c .before .before .before .before .before
           .κs) (c .before .before .before .before .before .args))) (Row.get 5 (T3 .locals) (m2 (c .before .before .before .before
-          .before .κs) (c .before .before .before .before .before .args))) (Row.get 1 (T3 .locals) (m15 (c .before) (c .w .given)) .now)
-          (Row.get 4 (T3 .locals) (m15 (c .before) (c .w .given))) (Row.get 5 (T3 .locals) (m15 (c .before) (c .w .given)))
+          .before .κs) (c .before .before .before .before .before .args))) (Row.get 1 (T3 .locals) (m15 (c .before) (c .work .given))
+          .now) (Row.get 4 (T3 .locals) (m15 (c .before) (c .work .given))) (Row.get 5 (T3 .locals) (m15 (c .before) (c .work .given)))
 
       abbrev pub m16 : (before : At-loop) → Typed.Mo T21
       m16 = λ before. s17 (m6 before)
@@ -1091,16 +1091,16 @@ module _ (claims· : Claims) where
               { before = c .before; loop-test = c .loop-test },
         )
 
-        lay4 : (c : After-copy) → at11 (W3 (c .before .before .before .before) (c .before .before .before .loop .w) (c .before .before
-            .before .loop .j) (c .before .before .before .loop .left)) (m10 (c .before) (After-copy·gave c))
+        lay4 : (c : After-copy) → at11 (W3 (c .before .before .before .before) (c .before .before .before .loop .work) (c .before
+            .before .before .loop .j) (c .before .before .before .loop .left)) (m10 (c .before) (After-copy·gave c))
         lay4 = λ c. (
           Path'.refl,
           λ g. (
             add-j record
-                { before = record { before = c .before; copy = c .copy }; w = record { given = g } },
+                { before = record { before = c .before; copy = c .copy }; work = record { given = g } },
             (
               sub-left record
-                  { before = record { before = c .before; copy = c .copy }; w = record { given = g } },
+                  { before = record { before = c .before; copy = c .copy }; work = record { given = g } },
               (
                 μ·0 (Row.get 1 (T3 .locals) (m2 (c
                     .before .before .before .before .κs) (c .before .before .before .before .args)) .now) (Row.get 2 (T3 .locals) (m2 (c .before
@@ -1111,19 +1111,18 @@ module _ (claims· : Claims) where
                     .now) (Row.get 4 (T3 .locals) (m15 record { before = c .before; copy = c .copy } g)) (Row.get 5 (T3 .locals) (m15 record
                     { before = c .before; copy = c .copy } g)),
                 loop-less record
-                    { before = record { before = c .before; copy = c .copy }; w = record { given = g } },
+                    { before = record { before = c .before; copy = c .copy }; work = record { given = g } },
                 (
                   (
-                    Row.get 1 (T3 .locals) (m15 record
-                        { before = c .before; copy = c .copy } g) .now,
-                    Row.get 4 (T3 .locals) (m15 record { before = c .before; copy = c .copy }
-                        g),
+                    Row.get 1 (T3 .locals) (m15
+                        record { before = c .before; copy = c .copy } g) .now,
+                    Row.get 4 (T3 .locals) (m15 record
+                        { before = c .before; copy = c .copy } g),
                     Row.get 5 (T3 .locals) (m15 record { before = c .before; copy = c .copy } g),
                   ),
-                  Path'.refl
-                      {a = m15 record { before = c .before; copy = c .copy } g},
+                  Path'.refl {a = m15 record { before = c .before; copy = c .copy } g},
                   loop-again record
-                      { before = record { before = c .before; copy = c .copy }; w = record { given = g } },
+                      { before = record { before = c .before; copy = c .copy }; work = record { given = g } },
                   Path'.refl {a = μ·0 (Row.get 1 (T3
                       .locals) (m2 (c .before .before .before .before .κs) (c .before .before .before .before .args)) .now) (Row.get 2 (T3
                       .locals) (m2 (c .before .before .before .before .κs) (c .before .before .before .before .args))) (Row.get 3 (T3 .locals) (m2
@@ -1138,7 +1137,7 @@ module _ (claims· : Claims) where
           ),
         )
 
-        lay3 : (c : In-loop) → at16 (W3 (c .before .before) (c .before .loop .w) (c .before .loop .j) (c .before .loop .left)) (m5 (c
+        lay3 : (c : In-loop) → at16 (W3 (c .before .before) (c .before .loop .work) (c .before .loop .j) (c .before .loop .left)) (m5 (c
             .before))
         lay3 = λ c. λ g. (
           Path'.refl,
@@ -1160,12 +1159,12 @@ module _ (claims· : Claims) where
           ),
         )
 
-        lay2 : (c : After-loop) → at3 (W4 (c .before .before) (c .before .loop .w) (c .before .loop .j) (c .before .loop .left)) (m4 (c
-            .before .before) (c .before .loop .w) (c .before .loop .j) (c .before .loop .left))
+        lay2 : (c : After-loop) → at3 (W4 (c .before .before) (c .before .loop .work) (c .before .loop .j) (c .before .loop .left)) (m4
+            (c .before .before) (c .before .loop .work) (c .before .loop .j) (c .before .loop .left))
         lay2 = λ c. lay5 record { before = c .before; loop-test = c .loop-test }
 
-        lay1 : (c : In-loop) → at1 (W4 (c .before .before) (c .before .loop .w) (c .before .loop .j) (c .before .loop .left)) (m4 (c
-            .before .before) (c .before .loop .w) (c .before .loop .j) (c .before .loop .left))
+        lay1 : (c : In-loop) → at1 (W4 (c .before .before) (c .before .loop .work) (c .before .loop .j) (c .before .loop .left)) (m4 (c
+            .before .before) (c .before .loop .work) (c .before .loop .j) (c .before .loop .left))
         lay1 = λ c. lay3 record { before = c .before; loop-test = c .loop-test }
 
         pub laid : (c : Start) → at29 (W0 (c .κs) (c .args)) (m0 (c .κs) (c .args))
@@ -1185,13 +1184,12 @@ module _ (claims· : Claims) where
             (
               λ taken. lay1
                   record {
-                    before = record { before = c; loop = record { w = vs .0; j = vs .1; left = vs .2; inv = inv } };
-                    loop-test = record
-                        { taken = Tests.ltb-true 0 (Row.get 5 (T3 .locals) (m3 c (vs .0) (vs .1) (vs .2))) taken };
+                    before = record { before = c; loop = record { work = vs .0; j = vs .1; left = vs .2; inv = inv } };
+                    loop-test =
+                        record { taken = Tests.ltb-true 0 (Row.get 5 (T3 .locals) (m3 c (vs .0) (vs .1) (vs .2))) taken };
                   },
               λ left. lay2 record {
-                before =
-                    record { before = c; loop = record { w = vs .0; j = vs .1; left = vs .2; inv = inv } };
+                before = record { before = c; loop = record { work = vs .0; j = vs .1; left = vs .2; inv = inv } };
                 loop-test = record
                     { left = Tests.ltb-false 0 (Row.get 5 (T3 .locals) (m3 c (vs .0) (vs .1) (vs .2))) left };
               },
@@ -1204,10 +1202,10 @@ module _ (claims· : Claims) where
               1 ps r xs m κs qs a (Post· κs a)) (Function.init 1 ps r xs m κs qs a)
           asked = λ a good pre bs. laid record {
             κs = κs;
-            args = record { w = a .0; i = a .1 .0; n = a .1 .1 .0 };
+            args = record { work = a .0; i = a .1 .0; n = a .1 .1 .0 };
             good = good;
-            fits =
-                record { i = record { fits = good .1 .0 .1 }; n = record { fits = good .1 .1 .0 .1 } };
+            fits
+                = record { i = record { fits = good .1 .0 .1 }; n = record { fits = good .1 .1 .0 .1 } };
             pre = pre;
           }
 

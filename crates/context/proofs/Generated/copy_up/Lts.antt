@@ -1,8 +1,8 @@
 -- Made by tools/records.py from the sources; antt refuses it where it is stale. Assumes nothing.
 use Prim.Native.Nat
 use Rattle.context.proofs.Element
-use Rattle.context.proofs.Sequent
-use Rattle.context.proofs.Sequent.Laws
+use Rattle.meter.proofs.Sequent
+use Rattle.meter.proofs.Sequent.Laws
 use borrow.Author.Called
 use borrow.Fn.Any
 use borrow.Fn.Call
@@ -94,7 +94,7 @@ abbrev y15 : Row.Entry
 y15 = (0, Rows.sc-here Row.sUnit)
 
 abbrev y16 : Syntax.Ty
-y16 = Syntax.tyStruct (99 ∷ 111 ∷ 110 ∷ 116 ∷ 101 ∷ 120 ∷ 116 ∷ 58 ∷ 58 ∷ 83 ∷ 101 ∷ 113 ∷ 117 ∷ 101 ∷ 110 ∷ 116 ∷ []) (Syntax.tcons y0
+y16 = Syntax.tyStruct (109 ∷ 101 ∷ 116 ∷ 101 ∷ 114 ∷ 58 ∷ 58 ∷ 83 ∷ 101 ∷ 113 ∷ 117 ∷ 101 ∷ 110 ∷ 116 ∷ []) (Syntax.tcons y0
     (Syntax.tcons y0 (Syntax.tcons y0 (Syntax.tcons y0 Syntax.tnil))))
 
 abbrev y17 : Row.Entry
@@ -396,10 +396,8 @@ module _ (claims· : Claims) where
   s5 = Call.callB ps·0 r·0 (claims· .0) (claims· .1) T6 (
     record
         { pos = 6; ty = Syntax.tyRef Syntax.erased Syntax.mut Element.named; ref = λ x. x },
-    (Num.vAt 3 λ x. x, (Num.vFld 2 ((Syntax.field 1) ∷ []) 8 λ x. Sequent.struct .as-values x .1 .0, tt)),  -- told apart: 1.
+    (Num.vAt 3 λ x. x, (Num.vFld 2 ((Syntax.field 1) ∷ []) 8 λ x. Sequent.struct .as-values x .1 .0, tt)),
   ) 4 (1 ∷ []) Syntax.tyUnit
-
-  -- told apart: 5.
 
   abbrev s6 : Typed.Mo T7 → Typed.Mo T8
   s6 = Scalar.n-room T7 4 Syntax.tyUnit
@@ -836,7 +834,7 @@ module _ (claims· : Claims) where
               (claims· .1) "context::copy_run" known E (λ pos β. β) G6 (
                 record
                     { pos = 6; ty = Syntax.tyRef Syntax.erased Syntax.mut Element.named; ref = λ x. x },
-                (Num.vAt 3 λ x. x, (Num.vFld 2 ((Syntax.field 1) ∷ []) 8 λ x. Sequent.struct .as-values x .1 .0, tt)),  -- told apart: 2.
+                (Num.vAt 3 λ x. x, (Num.vFld 2 ((Syntax.field 1) ∷ []) 8 λ x. Sequent.struct .as-values x .1 .0, tt)),
               ) 4 (1 ∷ [])
               (Call.sub-id 𝓤 H A W (G6 .slots)) (
                 Reads'.as-is 𝓤 H A (Mut.mslice Element.row y1 1),
@@ -882,30 +880,31 @@ module _ (claims· : Claims) where
 
       module _ (κs : Lifetimes.Lfts 1) where
         pub record Args : Type 0 where
-          pub w : Kinds.Den {n = 1} κs (MutSlice.pMutS Element.row 0 tt)
-          pub q : Kinds.Den {n = 1} κs (Value.pVal record {
+          pub work : Kinds.Den {n = 1} κs (MutSlice.pMutS Element.row 0 tt)
+          pub sequent : Kinds.Den {n = 1} κs (Value.pVal record {
             ty = Declared.row Sequent.the-type;
             one = Path'.refl;
-            val = Laws'.val
-                Sequent.the-type Laws.the-laws;
+            val =
+                Laws'.val Sequent.the-type Laws.the-laws;
             tells = Laws'.tells Sequent.the-type Laws.the-laws;
-            still = Laws'.still Sequent.the-type
-                Laws.the-copy Exit.yes;
+            still = Laws'.still
+                Sequent.the-type Laws.the-copy Exit.yes;
             row = Rows.whole (Declared.row Sequent.the-type);
             rd = λ x. x;
             mk = λ x. x;
-          } λ M 𝓤 H A W. record {
-            copies = Laws'.copy Sequent.the-type Laws.the-copy 𝓤 H A W;
-            lawful = Laws'.lawful Sequent.the-type Laws.the-laws 𝓤 H A
-                W;
-            makes = Laws'.makes Sequent.the-type Laws.the-plain 𝓤 H A;
-            in-mem = Local.mem-whole 𝓤 H A W (Declared.row
-                Sequent.the-type);
-            of-mem = Local.whole-mem 𝓤 H A W (Declared.row Sequent.the-type);
-          })
+          } λ M
+              𝓤 H A W. record {
+                copies = Laws'.copy Sequent.the-type Laws.the-copy 𝓤 H A W;
+                lawful = Laws'.lawful Sequent.the-type
+                    Laws.the-laws 𝓤 H A W;
+                makes = Laws'.makes Sequent.the-type Laws.the-plain 𝓤 H A;
+                in-mem = Local.mem-whole 𝓤 H A W
+                    (Declared.row Sequent.the-type);
+                of-mem = Local.whole-mem 𝓤 H A W (Declared.row Sequent.the-type);
+              })
 
         abbrev pub dens : (a : Args) → Kinds.Dens κs ps
-        dens = λ a. (a .w, (a .q, tt))
+        dens = λ a. (a .work, (a .sequent, tt))
 
       abbrev pub m0 : (κs : Lifetimes.Lfts 1) → (args : Args κs) → Typed.Mo T0
       m0 = λ κs args. (tt, Enter.partsP κs 1 ps xs (dens κs args))
@@ -969,7 +968,7 @@ module _ (claims· : Claims) where
         After-copy-run·own = Called.Called ps·0 r·0 (claims· .1) T6 (
           record
               { pos = 6; ty = Syntax.tyRef Syntax.erased Syntax.mut Element.named; ref = λ x. x },
-          (Num.vAt 3 λ x. x, (Num.vFld 2 ((Syntax.field 1) ∷ []) 8 λ x. Sequent.struct .as-values x .1 .0, tt)),  -- told apart: 3.
+          (Num.vAt 3 λ x. x, (Num.vFld 2 ((Syntax.field 1) ∷ []) 8 λ x. Sequent.struct .as-values x .1 .0, tt)),
         ) (m4 (before· .before)
             (before· .copy-run-arg .given))
 
@@ -981,7 +980,7 @@ module _ (claims· : Claims) where
       After-copy-run·gave = λ c. Called.given ps·0 r·0 (claims· .1) T6 (
         record
             { pos = 6; ty = Syntax.tyRef Syntax.erased Syntax.mut Element.named; ref = λ x. x },
-        (Num.vAt 3 λ x. x, (Num.vFld 2 ((Syntax.field 1) ∷ []) 8 λ x. Sequent.struct .as-values x .1 .0, tt)),  -- told apart: 4.
+        (Num.vAt 3 λ x. x, (Num.vFld 2 ((Syntax.field 1) ∷ []) 8 λ x. Sequent.struct .as-values x .1 .0, tt)),
       ) (m4 (c .before .before)
           (c .before .copy-run-arg .given)) (c .copy-run)
 
@@ -993,31 +992,31 @@ module _ (claims· : Claims) where
       m7 = λ before given. s8 .next (m6 (before .before) (After-copy-run·gave before)) given
 
       module _ (before· : After-copy-run) where
-        pub record After-w·own : Type 0 where
+        pub record After-work·own : Type 0 where
           pub given : s8 .gives (m6 (before· .before) (After-copy-run·gave before·))
 
-      pub record After-w : Type 0 where
+      pub record After-work : Type 0 where
         pub before : After-copy-run
-        pub w : After-w·own before
+        pub work : After-work·own before
 
-      abbrev pub m8 : (before : After-w) → (given : s11 .gives (m7 (before .before) (before .w .given))) → Typed.Mo T13
-      m8 = λ before given. s11 .next (m7 (before .before) (before .w .given)) given
+      abbrev pub m8 : (before : After-work) → (given : s11 .gives (m7 (before .before) (before .work .given))) → Typed.Mo T13
+      m8 = λ before given. s11 .next (m7 (before .before) (before .work .given)) given
 
-      abbrev pub m9 : (before : After-w) → (given : s11 .gives (m7 (before .before) (before .w .given))) → Typed.Mo T14
+      abbrev pub m9 : (before : After-work) → (given : s11 .gives (m7 (before .before) (before .work .given))) → Typed.Mo T14
       m9 = λ before given. s12 .next (m8 before given)
 
-      module _ (before· : After-w) where
+      module _ (before· : After-work) where
         pub record After-copy-run-arg2·own : Type 0 where
-          pub given : s11 .gives (m7 (before· .before) (before· .w .given))
+          pub given : s11 .gives (m7 (before· .before) (before· .work .given))
 
       pub record After-copy-run-arg2 : Type 0 where
-        pub before : After-w
+        pub before : After-work
         pub copy-run-arg2 : After-copy-run-arg2·own before
 
       abbrev pub Need-add-copy-run : Type 0
       Need-add-copy-run = (c : After-copy-run-arg2) → s13 .asks (m9 (c .before) (c .copy-run-arg2 .given))
 
-      abbrev pub m10 : (before : After-w) → (given : s11 .gives (m7 (before .before) (before .w .given))) → Typed.Mo T15
+      abbrev pub m10 : (before : After-work) → (given : s11 .gives (m7 (before .before) (before .work .given))) → Typed.Mo T15
       m10 = λ before given. s13 .next (m9 before given)
 
       abbrev pub m11 : (before : After-copy-run-arg2) → (given : s14 .gives (m10 (before .before) (before .copy-run-arg2 .given))) →
@@ -1096,27 +1095,27 @@ module _ (claims· : Claims) where
       m20 = λ before given. s25 (m19 before given)
 
       module _ (before· : After-copy-run2) where
-        pub record After-w2·own : Type 0 where
+        pub record After-work2·own : Type 0 where
           pub given : s22 .gives (m17 (before· .before) (After-copy-run2·gave before·))
 
-      pub record After-w2 : Type 0 where
+      pub record After-work2 : Type 0 where
         pub before : After-copy-run2
-        pub w2 : After-w2·own before
+        pub work2 : After-work2·own before
 
       abbrev pub Need-same-length : Type 0
-      Need-same-length = (c : After-w2) → MutSlice.SameLen (Row.get 1 (T27 .locals) (m20 (c .before) (c .w2 .given))) (dens (c .before
-          .before .before .before .before .before .before .before .κs) (c .before .before .before .before .before .before .before
-          .before .args) .0)
+      Need-same-length = (c : After-work2) → MutSlice.SameLen (Row.get 1 (T27 .locals) (m20 (c .before) (c .work2 .given))) (dens (c
+          .before .before .before .before .before .before .before .before .κs) (c .before .before .before .before .before .before
+          .before .before .args) .0)
 
       abbrev pub Need-returns : Type 0
-      Need-returns = (c : After-w2) → Post· (c .before .before .before .before .before .before .before .before .κs) (dens (c .before
+      Need-returns = (c : After-work2) → Post· (c .before .before .before .before .before .before .before .before .κs) (dens (c .before
           .before .before .before .before .before .before .before .κs) (c .before .before .before .before .before .before .before
           .before .args)) (Function.resV r (c .before .before .before .before .before .before .before .before .κs) (m20 (c .before) (c
-          .w2 .given) .0)) (Clauses.atExit (Kinds.endedOf 1 ps r) (c .before .before .before .before .before .before .before .before
+          .work2 .given) .0)) (Clauses.atExit (Kinds.endedOf 1 ps r) (c .before .before .before .before .before .before .before .before
           .κs) (dens (c .before .before .before .before .before .before .before .before .κs) (c .before .before .before .before .before
           .before .before .before .args)) (Enter.lastsP (c .before .before .before .before .before .before .before .before .κs) 1 ps xs
           (dens (c .before .before .before .before .before .before .before .before .κs) (c .before .before .before .before .before
-          .before .before .before .args)) (m20 (c .before) (c .w2 .given) .1)))
+          .before .before .before .args)) (m20 (c .before) (c .work2 .given) .1)))
 
       module _ (mul-first : Need-mul-first) (copy-run-requires : Need-copy-run-requires) (add-copy-run : Need-add-copy-run)
           (sub-copy-run : Need-sub-copy-run) (copy-run-requires-2 : Need-copy-run-requires-2) (same-length : Need-same-length) (returns
@@ -1132,11 +1131,11 @@ module _ (claims· : Claims) where
                   { before = c .before; copy-run2 = c .copy-run2 } g) .name) (Row.get 1 (T27 .locals) (m20 record
                   { before = c .before; copy-run2 = c .copy-run2 } g) .now) (dens (c .before .before .before .before .before .before .before
                   .κs) (c .before .before .before .before .before .before .before .args) .0 .now) (same-length record
-                  { before = record { before = c .before; copy-run2 = c .copy-run2 }; w2 = record { given = g } }),
+                  { before = record { before = c .before; copy-run2 = c .copy-run2 }; work2 = record { given = g } }),
               (tt, tt),
             ),
-            returns record
-                { before = record { before = c .before; copy-run2 = c .copy-run2 }; w2 = record { given = g } },
+            returns
+                record { before = record { before = c .before; copy-run2 = c .copy-run2 }; work2 = record { given = g } },
           ),
         )
 
@@ -1149,7 +1148,7 @@ module _ (claims· : Claims) where
             (
               add-copy-run record {
                 before = record
-                    { before = record { before = c .before; copy-run = c .copy-run }; w = record { given = g } };
+                    { before = record { before = c .before; copy-run = c .copy-run }; work = record { given = g } };
                 copy-run-arg2 = record
                     { given = g' };
               },
@@ -1157,7 +1156,7 @@ module _ (claims· : Claims) where
                 sub-copy-run record {
                   before = record {
                     before = record
-                        { before = record { before = c .before; copy-run = c .copy-run }; w = record { given = g } };
+                        { before = record { before = c .before; copy-run = c .copy-run }; work = record { given = g } };
                     copy-run-arg2 = record
                         { given = g' };
                   };
@@ -1167,7 +1166,7 @@ module _ (claims· : Claims) where
                   copy-run-requires-2 record {
                     before = record {
                       before = record
-                          { before = record { before = c .before; copy-run = c .copy-run }; w = record { given = g } };
+                          { before = record { before = c .before; copy-run = c .copy-run }; work = record { given = g } };
                       copy-run-arg2 = record
                           { given = g' };
                     };
@@ -1177,7 +1176,7 @@ module _ (claims· : Claims) where
                     before = record {
                       before = record {
                         before
-                            = record { before = record { before = c .before; copy-run = c .copy-run }; w = record { given = g } };
+                            = record { before = record { before = c .before; copy-run = c .copy-run }; work = record { given = g } };
                         copy-run-arg2 =
                             record { given = g' };
                       };
@@ -1187,7 +1186,7 @@ module _ (claims· : Claims) where
                       record { pos = 8; ty = Syntax.tyRef Syntax.erased Syntax.mut Element.named; ref = λ x. x },
                       (Num.vAt 10 λ x. x, (Num.vFld 2 ((Syntax.field 2) ∷ []) 16 λ x. Sequent.struct .as-values x .1 .1 .0, tt)),
                     ) (m13 record {
-                      before = record { before = record { before = c .before; copy-run = c .copy-run }; w = record { given = g } };
+                      before = record { before = record { before = c .before; copy-run = c .copy-run }; work = record { given = g } };
                       copy-run-arg2 = record { given = g' };
                     } g'') g'3;
                   },
@@ -1224,7 +1223,7 @@ module _ (claims· : Claims) where
         module _ (κs : Lifetimes.Lfts 1) (qs : Lifetimes.Shares 1) where
           pub asked : (a : Kinds.Dens κs ps) → (good : Kinds.GoodsP κs ps a) → (pre : Pre· κs a) → (bs : List.List Nat.ℕ) → Φ (Any.wantQ
               1 ps r xs m κs qs a (Post· κs a)) (Function.init 1 ps r xs m κs qs a)
-          asked = λ a good pre bs. laid record { κs = κs; args = record { w = a .0; q = a .1 .0 }; good = good; pre = pre }
+          asked = λ a good pre bs. laid record { κs = κs; args = record { work = a .0; sequent = a .1 .0 }; good = good; pre = pre }
 
         module _ {M : Type 1} (𝓤 : URA.URA M) (H : Wp.Heap 𝓤) (A : Atoms.Atoms 𝓤) (W : Kit.Given 𝓤 H A) (𝓣 : Wp.Tables 𝓤 H) (known0 :
             Plain.Known 𝓤 H A W 𝓣 1 ps·0 r·0 (claims· .0) (claims· .1) "context::copy_run") where

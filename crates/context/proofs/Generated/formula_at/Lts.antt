@@ -512,11 +512,11 @@ module _ (claims· : Claims) where
 
       module _ (κs : Lifetimes.Lfts 1) where
         pub record Args : Type 0 where
-          pub w : Kinds.Den {n = 1} κs (ShrSlice.pShrS Element.row 0 tt)
+          pub work : Kinds.Den {n = 1} κs (ShrSlice.pShrS Element.row 0 tt)
           pub i : Kinds.Den {n = 1} κs (Num.pNum Syntax.w64)
 
         abbrev pub dens : (a : Args) → Kinds.Dens κs ps
-        dens = λ a. (a .w, (a .i, tt))
+        dens = λ a. (a .work, (a .i, tt))
 
         module _ (args· : Args) where
           pub record Ranges : Type 0 where
@@ -724,7 +724,7 @@ module _ (claims· : Claims) where
               1 ps r xs m κs qs a (Post· κs a)) (Function.init 1 ps r xs m κs qs a)
           asked = λ a good pre bs. laid record {
             κs = κs;
-            args = record { w = a .0; i = a .1 .0 };
+            args = record { work = a .0; i = a .1 .0 };
             good = good;
             fits = record
                 { i = record { fits = good .1 .0 .1 } };

@@ -847,13 +847,13 @@ module _ (claims· : Claims) where
 
       module _ (κs : Lifetimes.Lfts 1) where
         pub record Args : Type 0 where
-          pub w : Kinds.Den {n = 1} κs (MutSlice.pMutS Element.row 0 tt)
+          pub work : Kinds.Den {n = 1} κs (MutSlice.pMutS Element.row 0 tt)
           pub i : Kinds.Den {n = 1} κs (Num.pNum Syntax.w64)
           pub a : Kinds.Den {n = 1} κs (Num.pNum Syntax.w64)
           pub x : Kinds.Den {n = 1} κs (Num.pNum Syntax.w64)
 
         abbrev pub dens : (a : Args) → Kinds.Dens κs ps
-        dens = λ a. (a .w, (a .i, (a .a, (a .x, tt))))
+        dens = λ a. (a .work, (a .i, (a .a, (a .x, tt))))
 
         module _ (args· : Args) where
           pub record Ranges : Type 0 where
@@ -984,12 +984,12 @@ module _ (claims· : Claims) where
       m17 = λ before given. s18 .next (m16 (before .before) (After-write·gave before)) given
 
       module _ (before· : After-write) where
-        pub record After-w·own : Type 0 where
+        pub record After-work·own : Type 0 where
           pub given : s18 .gives (m16 (before· .before) (After-write·gave before·))
 
-      pub record After-w : Type 0 where
+      pub record After-work : Type 0 where
         pub before : After-write
-        pub w : After-w·own before
+        pub work : After-work·own before
 
       module _ (before· : Start) where
         pub record Else1·own : Type 0 where
@@ -1016,15 +1016,15 @@ module _ (claims· : Claims) where
       m22 = λ before given. s24 (m21 before given)
 
       abbrev pub Need-same-length : Type 0
-      Need-same-length = (c : After-w) → MutSlice.SameLen (Row.get 1 (T27 .locals) (m22 (c .before) (c .w .given))) (dens (c .before
-          .before .before .before .κs) (c .before .before .before .before .args) .0)
+      Need-same-length = (c : After-work) → MutSlice.SameLen (Row.get 1 (T27 .locals) (m22 (c .before) (c .work .given))) (dens (c
+          .before .before .before .before .κs) (c .before .before .before .before .args) .0)
 
       abbrev pub Need-returns : Type 0
-      Need-returns = (c : After-w) → Post· (c .before .before .before .before .κs) (dens (c .before .before .before .before .κs) (c
-          .before .before .before .before .args)) (Function.resV r (c .before .before .before .before .κs) (m22 (c .before) (c .w
+      Need-returns = (c : After-work) → Post· (c .before .before .before .before .κs) (dens (c .before .before .before .before .κs) (c
+          .before .before .before .before .args)) (Function.resV r (c .before .before .before .before .κs) (m22 (c .before) (c .work
           .given) .0)) (Clauses.atExit (Kinds.endedOf 1 ps r) (c .before .before .before .before .κs) (dens (c .before .before .before
           .before .κs) (c .before .before .before .before .args)) (Enter.lastsP (c .before .before .before .before .κs) 1 ps xs (dens (c
-          .before .before .before .before .κs) (c .before .before .before .before .args)) (m22 (c .before) (c .w .given) .1)))
+          .before .before .before .before .κs) (c .before .before .before .before .args)) (m22 (c .before) (c .work .given) .1)))
 
       abbrev pub m23 : (before : Start) → Typed.Mo T24
       m23 = λ before. s21 (m18 before)
@@ -1048,17 +1048,17 @@ module _ (claims· : Claims) where
         lay4 : (c : Else1) → at19 (W0 (c .before .κs) (c .before .args)) (m18 (c .before))
         lay4 = λ c. ((Path'.refl, (tt, (tt, (tt, tt)))), returns-2 record { before = c .before; if1 = c .if1 })
 
-        lay3 : (c : After-w) → at19 (W0 (c .before .before .before .before .κs) (c .before .before .before .before .args)) (m17 (c
-            .before) (c .w .given))
+        lay3 : (c : After-work) → at19 (W0 (c .before .before .before .before .κs) (c .before .before .before .before .args)) (m17 (c
+            .before) (c .work .given))
         lay3 = λ c. (
           (
-            MutSlice.fix-len (Row.get 1 (T27 .locals) (m22 (c .before) (c .w .given)) .ptr) (Row.get 1 (T27 .locals) (m22 (c
-                .before) (c .w .given)) .name) (Row.get 1 (T27 .locals) (m22 (c .before) (c .w .given)) .now) (dens (c .before .before
-                .before .before .κs) (c .before .before .before .before .args) .0 .now) (same-length record
-                { before = c .before; w = c .w }),
+            MutSlice.fix-len (Row.get 1 (T27 .locals) (m22 (c .before) (c .work .given)) .ptr) (Row.get 1 (T27 .locals) (m22
+                (c .before) (c .work .given)) .name) (Row.get 1 (T27 .locals) (m22 (c .before) (c .work .given)) .now) (dens (c .before
+                .before .before .before .κs) (c .before .before .before .before .args) .0 .now) (same-length record
+                { before = c .before; work = c .work }),
             (tt, (tt, (tt, tt))),
           ),
-          returns record { before = c .before; w = c .w },
+          returns record { before = c .before; work = c .work },
         )
 
         lay2 : (c : Else1) → at12 (W1 (c .before .κs) (c .before .args)) (m3 (c .before .κs) (c .before .args))
@@ -1093,7 +1093,7 @@ module _ (claims· : Claims) where
                                     (Num.vAt 2 λ x. x, (Num.vAt 11 λ x. x, (Num.vAt 13 λ x. x, tt))),
                                   ) (m12 record { before = c .before; if1 = c .if1 } g) g';
                             };
-                            w = record { given = g'' };
+                            work = record { given = g'' };
                           },
                     ),
                   ),
@@ -1129,7 +1129,7 @@ module _ (claims· : Claims) where
               1 ps r xs m κs qs a (Post· κs a)) (Function.init 1 ps r xs m κs qs a)
           asked = λ a good pre bs. laid record {
             κs = κs;
-            args = record { w = a .0; i = a .1 .0; a = a .1 .1 .0; x = a .1 .1 .1 .0 };
+            args = record { work = a .0; i = a .1 .0; a = a .1 .1 .0; x = a .1 .1 .1 .0 };
             good = good;
             fits = record {
               i = record { fits = good .1 .0 .1 };

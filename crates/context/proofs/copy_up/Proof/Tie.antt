@@ -24,8 +24,8 @@ After-copy-run-arg = Lts.After-copy-run-arg (Reads.Asked, Reads.Learnt) Reads'.P
 abbrev pub After-copy-run : Type 0
 After-copy-run = Lts.After-copy-run (Reads.Asked, Reads.Learnt) Reads'.Pre Reads'.Post
 
-abbrev pub After-w : Type 0
-After-w = Lts.After-w (Reads.Asked, Reads.Learnt) Reads'.Pre Reads'.Post
+abbrev pub After-work : Type 0
+After-work = Lts.After-work (Reads.Asked, Reads.Learnt) Reads'.Pre Reads'.Post
 
 abbrev pub After-copy-run-arg2 : Type 0
 After-copy-run-arg2 = Lts.After-copy-run-arg2 (Reads.Asked, Reads.Learnt) Reads'.Pre Reads'.Post
@@ -36,8 +36,8 @@ After-struct-known2 = Lts.After-struct-known2 (Reads.Asked, Reads.Learnt) Reads'
 abbrev pub After-copy-run2 : Type 0
 After-copy-run2 = Lts.After-copy-run2 (Reads.Asked, Reads.Learnt) Reads'.Pre Reads'.Post
 
-abbrev pub After-w2 : Type 0
-After-w2 = Lts.After-w2 (Reads.Asked, Reads.Learnt) Reads'.Pre Reads'.Post
+abbrev pub After-work2 : Type 0
+After-work2 = Lts.After-work2 (Reads.Asked, Reads.Learnt) Reads'.Pre Reads'.Post
 
 abbrev pub Need-mul-first : Type 0
 Need-mul-first = Lts.Need-mul-first (Reads.Asked, Reads.Learnt) Reads'.Pre Reads'.Post
@@ -67,7 +67,6 @@ module _ {M : Type 1} where
   spec = λ answer answer' answer'' answer'3 answer'4 answer'5 answer'6. Lts.spec (Reads.Asked, Reads.Learnt) Reads'.Pre Reads'.Post
       answer answer' answer'' answer'3 answer'4 answer'5 answer'6
 
-  -- antt refused `close` as it was built: the module's report says why
   pub close : Lts.Closed (Reads.Asked, Reads.Learnt) Reads'.Pre Reads'.Post M → Statement.statement M
   unfolding Code.routine Running.tablesOf
   close = λ closed 𝓤 H 𝓜 𝓖 𝓡. Written.close 1 Kinds.ps Kinds.r Reads'.Ghost Reads'.requires Reads'.ensures Reads'.pre-read Reads'.Pinned

@@ -27,8 +27,8 @@ After-put-arg = Lts.After-put-arg (Reads'.Asked, Reads'.Learnt) Reads.Pre Reads.
 abbrev pub After-put : Type 0
 After-put = Lts.After-put (Reads'.Asked, Reads'.Learnt) Reads.Pre Reads.Post
 
-abbrev pub After-w : Type 0
-After-w = Lts.After-w (Reads'.Asked, Reads'.Learnt) Reads.Pre Reads.Post
+abbrev pub After-work : Type 0
+After-work = Lts.After-work (Reads'.Asked, Reads'.Learnt) Reads.Pre Reads.Post
 
 abbrev pub After-struct-known3 : Type 0
 After-struct-known3 = Lts.After-struct-known3 (Reads'.Asked, Reads'.Learnt) Reads.Pre Reads.Post
@@ -64,7 +64,6 @@ module _ {M : Type 1} where
   spec = λ answer answer' answer'' answer'3 answer'4 answer'5 answer'6 answer'7. Lts.spec (Reads'.Asked, Reads'.Learnt) Reads.Pre
       Reads.Post answer answer' answer'' answer'3 answer'4 answer'5 answer'6 answer'7
 
-  -- antt refused `close` as it was built: the module's report says why
   pub close : Lts.Closed (Reads'.Asked, Reads'.Learnt) Reads.Pre Reads.Post M → Statement.statement M
   unfolding Code.routine Running.tablesOf
   close = λ closed 𝓤 H 𝓜 𝓖 𝓡. Written.close 1 Kinds.ps Kinds.r Reads.Ghost Reads.requires Reads.ensures Reads.pre-read Reads.Pinned

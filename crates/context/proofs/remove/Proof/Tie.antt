@@ -27,8 +27,8 @@ After-struct-known2 = Lts.After-struct-known2 (Reads'.Asked, Reads'.Learnt) Read
 abbrev pub After-shift-run : Type 0
 After-shift-run = Lts.After-shift-run (Reads'.Asked, Reads'.Learnt) Reads.Pre Reads.Post
 
-abbrev pub After-w : Type 0
-After-w = Lts.After-w (Reads'.Asked, Reads'.Learnt) Reads.Pre Reads.Post
+abbrev pub After-work : Type 0
+After-work = Lts.After-work (Reads'.Asked, Reads'.Learnt) Reads.Pre Reads.Post
 
 abbrev pub After-struct-known3 : Type 0
 After-struct-known3 = Lts.After-struct-known3 (Reads'.Asked, Reads'.Learnt) Reads.Pre Reads.Post
@@ -64,7 +64,6 @@ module _ {M : Type 1} where
   spec = λ answer answer' answer'' answer'3 answer'4 answer'5 answer'6 answer'7. Lts.spec (Reads'.Asked, Reads'.Learnt) Reads.Pre
       Reads.Post answer answer' answer'' answer'3 answer'4 answer'5 answer'6 answer'7
 
-  -- antt refused `close` as it was built: the module's report says why
   pub close : Lts.Closed (Reads'.Asked, Reads'.Learnt) Reads.Pre Reads.Post M → Statement.statement M
   unfolding Code.routine Running.tablesOf
   close = λ closed 𝓤 H 𝓜 𝓖 𝓡. Written.close 1 Kinds.ps Kinds.r Reads.Ghost Reads.requires Reads.ensures Reads.pre-read Reads.Pinned

@@ -23,11 +23,11 @@ use Rattle.house_text.proofs.+lay_field+lay_term.Proof.Measures.{lay-fi
 -- the field that the match found
 told : (t : ℕ) (c : lay-field-lts.After-slice-known (lay-field-claims t) (lay-field-at t) lay-field.Post) {f : Field} →
     let args = c .before .args in
-    let piece = fieldPiece (now (args .f)) (now (args .t)) (namesIn (now (args .names))) (args .levels) in
+    let piece = fieldPiece (now (args .words)) (now (args .terms)) (namesIn (now (args .names))) (args .levels) in
     args .what ≡ f → piece (fieldAs f) (args .x) ≡ piece (fieldAs (args .what)) (args .x)
 told t c e =
     let args = c .before .args in
-    piece-told (now (args .f)) (now (args .t)) (namesIn (now (args .names))) (args .levels) (args .x) e
+    piece-told (now (args .words)) (now (args .terms)) (namesIn (now (args .names))) (args .levels) (args .x) e
 
 lay-field-enum-told : (t : ℕ) → lay-field-lts.Need-enum-told (lay-field-claims t) (lay-field-at t) lay-field.Post
 lay-field-enum-told t c = search needs
@@ -59,8 +59,8 @@ lay-field-lay-term-requires t c κs =
     let at-enum-told3 = c .before .before .before .before .before .before in
     let start = at-enum-told3 .before .before .before .before .before .before in
     let args = start .args in
-    let m = length (now (args .f)) in
-    let n = length (now (args .t)) / nodeWidth in
+    let m = length (now (args .words)) in
+    let n = length (now (args .terms)) / nodeWidth in
     let child = at-enum-told3 .enum-told3 .given .1 in (
       omega (arith, weight-told (args .x) child, start .pre .0),
       (start .pre .1 .0, field-told m n (args .x) child (start .pre .1 .1)),
@@ -82,8 +82,8 @@ lay-field-lay-formula-requires t c κs =
     let at-enum-told4 = c .before .before .before .before .before .before in
     let start = at-enum-told4 .before .before .before .before .before .before in
     let args = start .args in
-    let m = length (now (args .f)) in
-    let n = length (now (args .t)) / nodeWidth in
+    let m = length (now (args .words)) in
+    let n = length (now (args .terms)) / nodeWidth in
     (start .pre .1 .0 .formulas, field-told m n (args .x) (at-enum-told4 .enum-told4 .given .1) (start .pre .1 .1))
 
 lay-field-returns : (t : ℕ) → lay-field-lts.Need-returns (lay-field-claims t) (lay-field-at t) lay-field.Post

@@ -19,7 +19,7 @@ use Rattle.house_text.proofs.+lay_field+lay_term.Proof.Measures.{lay-te
 -- the node, once its kind is read
 read : (t : ℕ) (c : lay-term-lts.After-number (lay-term-claims t) (lay-term-at t) lay-term.Post) →
     let args = c .before .before .before .before .before .before .before .args in
-    NodeRead (now (args .f)) (now (args .t)) (args .i) (c .number .result)
+    NodeRead (now (args .words)) (now (args .terms)) (args .i) (c .number .result)
 read t c =
     let start = c .before .before .before .before .before .before .before in
     record { given = start .pre .1 .0; inside = start .pre .1 .1; kind = c .number .ensures }
@@ -31,14 +31,14 @@ lay-term-returns : (t : ℕ) → lay-term-lts.Need-returns (lay-term-claims t) (
 lay-term-returns t c =
     let start = c .before .before .before .before .before in
     let args = start .args in
-    laid-as (no-term (now (args .f)) (now (args .t)) (namesIn (now (args .names))) (args .levels) (args .i) (c .if1 .taken))
+    laid-as (no-term (now (args .words)) (now (args .terms)) (namesIn (now (args .names))) (args .levels) (args .i) (c .if1 .taken))
     (laid-none (now (args .buf)) (args .at))
 
 lay-term-returns-2 : (t : ℕ) → lay-term-lts.Need-returns-2 (lay-term-claims t) (lay-term-at t) lay-term.Post
 lay-term-returns-2 t c =
     let start = c .before .before .before .before .before .before in
     let args = start .args in
-    let piece = termPiece (now (args .f)) (now (args .t)) (namesIn (now (args .names))) (args .levels) (args .i) in
+    let piece = termPiece (now (args .words)) (now (args .terms)) (namesIn (now (args .names))) (args .levels) (args .i) in
     laid-no-more piece (now (args .buf)) (args .at) (c .if2 .taken)
 
 lay-term-mul-node : (t : ℕ) → lay-term-lts.Need-mul-node (lay-term-claims t) (lay-term-at t) lay-term.Post

@@ -5,9 +5,9 @@ use native.Mathlib.Omega.{arith}
 use Rattle.theory.specs.NameText.{namesIn}
 use Rattle.theory.specs.Names.{skipped}
 use Rattle.theory.specs.Meter as M
-use Rattle.representation.proofs.Falls.{weigh-back}
-use Rattle.premises.proofs.Asking.{asked-at}
-use Rattle.premises.proofs.TryWays.{try-short, try-failed, try-back, try-nested, try-both, try-second-short, try-second-failed}
+use Rattle.search_laws.proofs.Falls.{weigh-back}
+use Rattle.search_premises.proofs.Asking.{asked-at}
+use Rattle.search_premises.proofs.TryWays.{try-short, try-failed, try-back, try-nested, try-both, try-second-short, try-second-failed}
 use Rattle.prove.proofs.At.{first-at}
 use Rattle.prove.proofs.Generated.attempt.Reads as attempt
 use Rattle.prove.proofs.Generated.attempt.Lts as attempt-lts
@@ -26,7 +26,7 @@ second-premise-requires t c κs =
     let p1 = c .before .before .before .before in
     let p2 = p1 .before .before .before .before .before .before .before in
     let s = p2 .before .before .before .before .before .before .before in
-    let b = try-back (skipped (namesIn (s .args .k .now))) (s .pre .1 .0) (s .pre .1 .1 .1)
+    let b = try-back (skipped (namesIn (s .args .names .now))) (s .pre .1 .0) (s .pre .1 .1 .1)
     (first-at (p1 .j .given .1) (p2 .first-premise .ensures)) in (
       omega (arith, (s .pre .0), weigh-back M.bySearch (s .pre .1 .0) (b .0)),
       (
@@ -34,7 +34,7 @@ second-premise-requires t c κs =
         (
           s .pre .1 .1 .0,
           (
-            try-nested (skipped (namesIn (s .args .k .now))) (s .pre .1 .0) (s .pre .1 .1 .1) (first-at
+            try-nested (skipped (namesIn (s .args .names .now))) (s .pre .1 .0) (s .pre .1 .1 .1) (first-at
                 (p1 .j .given .1) (p2 .first-premise .ensures)),
             b .1,
           ),
@@ -88,7 +88,7 @@ returns t c =
     let p3 = p2 .before .before .before .before .before in
     let p4 = p3 .before .before .before .before .before .before .before in
     let s = p4 .before .before .before .before .before .before .before in
-    try-both (skipped (namesIn (s .args .k .now))) (s .pre .1 .0) (s .pre .1 .1 .1)
+    try-both (skipped (namesIn (s .args .names .now))) (s .pre .1 .0) (s .pre .1 .1 .1)
     (first-at (p3 .j .given .1) (p4 .first-premise .ensures)) (asked-at (p1 .r .given .1) (p2 .second-premise .ensures))
 
 pub same-length-4 : (t : ℕ) → attempt-lts.Need-same-length-4 (attempt-claims t) (attempt-at t) attempt.Post
@@ -116,7 +116,7 @@ returns-2 t c =
     let p4 = p3 .before .before .before .before .before in
     let p5 = p4 .before .before .before .before .before .before .before in
     let s = p5 .before .before .before .before .before .before .before in
-    try-second-failed (skipped (namesIn (s .args .k .now))) (s .pre .1 .0) (s .pre .1 .1 .1)
+    try-second-failed (skipped (namesIn (s .args .names .now))) (s .pre .1 .0) (s .pre .1 .1 .1)
     (first-at (p4 .j .given .1) (p5 .first-premise .ensures)) (asked-at (p2 .s2 .given .1) (p3 .second-premise .ensures))
     (c .give-back .ensures)
 
@@ -145,7 +145,7 @@ returns-3 t c =
     let p3 = p2 .before .before .before .before .before in
     let p4 = p3 .before .before .before .before .before .before .before in
     let s = p4 .before .before .before .before .before .before .before in
-    try-second-short (skipped (namesIn (s .args .k .now))) (s .pre .1 .0) (s .pre .1 .1 .1)
+    try-second-short (skipped (namesIn (s .args .names .now))) (s .pre .1 .0) (s .pre .1 .1 .1)
     (first-at (p3 .j .given .1) (p4 .first-premise .ensures)) (asked-at (p1 .n .given .1) (p2 .second-premise .ensures))
 
 pub same-length-10 : (t : ℕ) → attempt-lts.Need-same-length-10 (attempt-claims t) (attempt-at t) attempt.Post
@@ -168,7 +168,7 @@ returns-4 t c =
     let p2 = c .before .before in
     let p3 = p2 .before .before .before .before .before .before .before in
     let s = p3 .before .before .before .before .before .before .before in
-    try-failed (skipped (namesIn (s .args .k .now))) (s .pre .1 .0) (s .pre .1 .1 .1)
+    try-failed (skipped (namesIn (s .args .names .now))) (s .pre .1 .0) (s .pre .1 .1 .1)
     (first-at (p2 .s .given .1) (p3 .first-premise .ensures)) (c .give-back2 .ensures)
 
 pub same-length-13 : (t : ℕ) → attempt-lts.Need-same-length-13 (attempt-claims t) (attempt-at t) attempt.Post
@@ -191,5 +191,5 @@ returns-5 t c =
     let p1 = c .before in
     let p2 = p1 .before .before .before .before .before .before .before in
     let s = p2 .before .before .before .before .before .before .before in
-    try-short (skipped (namesIn (s .args .k .now))) (s .pre .1 .0) (s .pre .1 .1 .1)
+    try-short (skipped (namesIn (s .args .names .now))) (s .pre .1 .0) (s .pre .1 .1 .1)
     (first-at (p1 .n2 .given .1) (p2 .first-premise .ensures))

@@ -5,9 +5,9 @@ use native.Mathlib.Omega.{arith}
 use Rattle.theory.specs.NameText.{namesIn}
 use Rattle.theory.specs.Names.{skipped}
 use Rattle.theory.specs.Meter as M
-use Rattle.rules.proofs.LeftMakes.{first-near}
-use Rattle.premises.proofs.Asking.{prepared-at, made-for, asked-lacks, asked-by}
-use Rattle.premises.proofs.LeftWays.{half-less}
+use Rattle.search_left.proofs.LeftMakes.{first-near}
+use Rattle.search_premises.proofs.Asking.{prepared-at, made-for, asked-lacks, asked-by}
+use Rattle.search_premises.proofs.LeftWays.{half-less}
 use Rattle.prove.proofs.Generated.branch.Reads as branch
 use Rattle.prove.proofs.Generated.branch.Lts as branch-lts
 use Rattle.prove.proofs.+attempt+branch+first_premise+left+left_or+positions+premise+right+right_and+right_impl+search+second_half+second_premise.Proof.Claims.{branch-at, branch-claims}
@@ -21,7 +21,7 @@ half-requires t c κs =
         (s .pre .1 .1 .1 .0 .inside),
         omega (
           arith,
-          first-near (s .pre .1 .0) (s .args .k .now)
+          first-near (s .pre .1 .0) (s .args .names .now)
               (s .pre .1 .1 .0) (s .pre .1 .1 .1 .1),
         ),
       ),
@@ -41,12 +41,12 @@ left-requires t c κs =
       omega (
         arith,
         (s .pre .0),
-        half-less (skipped (namesIn (s .args .k .now))) (s .pre .1 .0) (s .pre .1 .1 .1 .0)
-            (s .pre .1 .1 .1 .1) (prepared-at (p1 .s1 .given .1) ((p2 .half .ensures) (skipped (namesIn (s .args .k .now)))
+        half-less (skipped (namesIn (s .args .names .now))) (s .pre .1 .0) (s .pre .1 .1 .1 .0)
+            (s .pre .1 .1 .1 .1) (prepared-at (p1 .s1 .given .1) ((p2 .half .ensures) (skipped (namesIn (s .args .names .now)))
             (s .pre .1 .1 .1 .1))),
       ),
       (
-        made-for (prepared-at (p1 .s1 .given .1) ((p2 .half .ensures) (skipped (namesIn (s .args .k .now)))
+        made-for (prepared-at (p1 .s1 .given .1) ((p2 .half .ensures) (skipped (namesIn (s .args .names .now)))
             (s .pre .1 .1 .1 .1))) .rep,
         (s .pre .1 .1 .0),
       ),
@@ -72,8 +72,8 @@ returns t c =
     let p1 = c .before in
     let p2 = p1 .before .before .before .before .before in
     let s = p2 .before .before .before .before .before .before .before in
-    asked-lacks M.byLeft (skipped (namesIn (s .args .k .now)))
-    (prepared-at (p1 .n .given .1) ((p2 .half .ensures) (skipped (namesIn (s .args .k .now))) (s .pre .1 .1 .1 .1)))
+    asked-lacks M.byLeft (skipped (namesIn (s .args .names .now)))
+    (prepared-at (p1 .n .given .1) ((p2 .half .ensures) (skipped (namesIn (s .args .names .now))) (s .pre .1 .1 .1 .1)))
 
 pub same-length-4 : (t : ℕ) → branch-lts.Need-same-length-4 (branch-claims t) (branch-at t) branch.Post
 same-length-4 t c =
@@ -99,5 +99,5 @@ returns-2 t c =
     let p2 = p1 .before .before .before .before .before in
     let p3 = p2 .before .before .before .before .before in
     let s = p3 .before .before .before .before .before .before .before in
-    asked-by (prepared-at (p2 .s1 .given .1) ((p3 .half .ensures) (skipped (namesIn (s .args .k .now))) (s .pre .1 .1 .1 .1)))
+    asked-by (prepared-at (p2 .s1 .given .1) ((p3 .half .ensures) (skipped (namesIn (s .args .names .now))) (s .pre .1 .1 .1 .1)))
     (p1 .left .ensures)

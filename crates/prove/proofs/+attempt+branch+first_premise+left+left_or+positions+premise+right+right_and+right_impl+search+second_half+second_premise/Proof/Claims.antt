@@ -3,8 +3,8 @@ use Prim.Native.Nat.{ℕ, _+_, _*_, _<_}
 use borrow.Fn.Kinds.{In}
 use borrow.Fn.PlainCycle.{Measures, is, falls, and}
 use Rattle.theory.specs.Meter as M
-use Rattle.representation.specs.Meaning.{weigh}
-use Rattle.premises.specs.Asked.{weighGoal}
+use Rattle.search_laws.specs.Meaning.{weigh}
+use Rattle.search_premises.specs.Asked.{weighGoal}
 use Rattle.prove.proofs.Generated.attempt.Reads as attempt
 use Rattle.prove.proofs.Generated.attempt.Kinds as attempt-kinds
 use Rattle.prove.proofs.Generated.attempt.Lts as attempt-lts
@@ -45,10 +45,10 @@ use Rattle.prove.proofs.Generated.second_premise.Reads as second-premis
 use Rattle.prove.proofs.Generated.second_premise.Kinds as second-premise-kinds
 use Rattle.prove.proofs.Generated.second_premise.Lts as second-premise-lts
 use Rattle.context.proofs.Generated.copy_up.Reads as copy-up-reads
-use Rattle.context.proofs.counted.Reads as counted-reads
+use Rattle.meter.proofs.counted.Reads as counted-reads
 use Rattle.context.proofs.Generated.formula_at.Reads as formula-at-reads
-use Rattle.context.proofs.give_back.Reads as give-back-reads
-use Rattle.context.proofs.lack.Reads as lack-reads
+use Rattle.meter.proofs.give_back.Reads as give-back-reads
+use Rattle.meter.proofs.lack.Reads as lack-reads
 use Rattle.context.proofs.Generated.term_at.Reads as term-at-reads
 use Rattle.context.proofs.top.Reads as top-reads
 use Rattle.context.proofs.up.Reads as up-reads
@@ -56,13 +56,13 @@ use Rattle.formula.proofs.kind.Reads as kind-reads
 use Rattle.formula.proofs.left.Reads as left-reads
 use Rattle.formula.proofs.right.Reads as right-reads
 use Rattle.identifier_generator.proofs.fresh.Reads as fresh-reads
-use Rattle.premises.proofs.Generated.body.Reads as body-reads
-use Rattle.premises.proofs.Generated.first.Reads as first-reads
-use Rattle.premises.proofs.Generated.half.Reads as half-reads
-use Rattle.premises.proofs.Generated.second.Reads as second-reads
-use Rattle.rules.proofs.Generated.turn.Reads as turn-reads
-use Rattle.rules.proofs.close.Reads as close-reads
-use Rattle.rules.proofs.Generated.nested.Reads as nested-reads
+use Rattle.search_premises.proofs.Generated.body.Reads as body-reads
+use Rattle.search_premises.proofs.Generated.first.Reads as first-reads
+use Rattle.search_premises.proofs.Generated.half.Reads as half-reads
+use Rattle.search_premises.proofs.Generated.second.Reads as second-reads
+use Rattle.search_left.proofs.Generated.turn.Reads as turn-reads
+use Rattle.search_left.proofs.close.Reads as close-reads
+use Rattle.search_left.proofs.Generated.nested.Reads as nested-reads
 
 abbrev pub μ-attempt : Measures 4 attempt-kinds.ps ℕ
 μ-attempt κs a = weigh M.bySearch (a .0 .now) (a .1 .1 .1 .1 .1 .0 .formulas) (a .1 .1 .0 .now) (a .1 .1 .1 .1 .1 .1 .0) * 8 + 4

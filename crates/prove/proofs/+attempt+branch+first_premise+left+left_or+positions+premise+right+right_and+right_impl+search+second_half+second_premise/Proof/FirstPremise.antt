@@ -8,9 +8,9 @@ use Rattle.theory.specs.NameText.{namesIn}
 use Rattle.theory.specs.Names.{skipped}
 use Rattle.theory.specs.Meter as M
 use Rattle.theory.proofs.Derive.{fresh-above}
-use Rattle.rules.proofs.LeftMakes.{first-near, second-near}
-use Rattle.premises.proofs.Asking.{prepared-at, made-for, asked-lacks, asked-by}
-use Rattle.premises.proofs.SearchWays.{first-less}
+use Rattle.search_left.proofs.LeftMakes.{first-near, second-near}
+use Rattle.search_premises.proofs.Asking.{prepared-at, made-for, asked-lacks, asked-by}
+use Rattle.search_premises.proofs.SearchWays.{first-less}
 use Rattle.prove.proofs.Generated.first_premise.Reads as first-premise
 use Rattle.prove.proofs.Generated.first_premise.Lts as first-premise-lts
 use Rattle.prove.proofs.+attempt+branch+first_premise+left+left_or+positions+premise+right+right_and+right_impl+search+second_half+second_premise.Proof.Claims.{first-premise-at, first-premise-claims}
@@ -21,12 +21,12 @@ fresh-requires t c κs = search needs
 pub add-fresh : (t : ℕ) → first-premise-lts.Need-add-fresh (first-premise-claims t) (first-premise-at t) first-premise.Post
 add-fresh t c =
     let s = c .before .before .before .before in
-    omega (arith, first-near (s .pre .1 .0) (s .args .k .now) (s .pre .1 .1 .0) (c .fresh .ensures))
+    omega (arith, first-near (s .pre .1 .0) (s .args .names .now) (s .pre .1 .1 .0) (c .fresh .ensures))
 
 pub fresh-requires-2 : (t : ℕ) → first-premise-lts.Need-fresh-requires-2 (first-premise-claims t) (first-premise-at t) first-premise.Post
 fresh-requires-2 t c κs =
     let s = c .before .before .before .before in
-    let h = first-near (s .pre .1 .0) (s .args .k .now) (s .pre .1 .1 .0) (c .fresh .ensures) in omega arith
+    let h = first-near (s .pre .1 .0) (s .args .names .now) (s .pre .1 .1 .0) (c .fresh .ensures) in omega arith
 
 pub first-requires : (t : ℕ) → first-premise-lts.Need-first-requires (first-premise-claims t) (first-premise-at t) first-premise.Post
 first-requires t c κs =
@@ -40,12 +40,12 @@ first-requires t c κs =
           omega (
             arith,
             (p1 .fresh2 .ensures),
-            fresh-above (skipped (namesIn (s .args .k .now)))
+            fresh-above (skipped (namesIn (s .args .names .now)))
                 ((p2 .fresh .result) + 1),
           ),
           omega (
             arith,
-            second-near (s .pre .1 .0) (s .args .k .now) (s .pre .1 .1 .0) (p2 .fresh .ensures)
+            second-near (s .pre .1 .0) (s .args .names .now) (s .pre .1 .1 .0) (p2 .fresh .ensures)
                 (p1 .fresh2 .ensures),
           ),
         ),
@@ -68,13 +68,13 @@ right-requires t c κs =
       omega (
         arith,
         (s .pre .0),
-        first-less (skipped (namesIn (s .args .k .now))) (s .pre .1 .0) (s .pre .1 .1 .1) (p4 .fresh .ensures)
-            (p3 .fresh2 .ensures) (prepared-at (p1 .s1 .given .1) ((p2 .first .ensures) (skipped (namesIn (s .args .k .now)))
+        first-less (skipped (namesIn (s .args .names .now))) (s .pre .1 .0) (s .pre .1 .1 .1) (p4 .fresh .ensures)
+            (p3 .fresh2 .ensures) (prepared-at (p1 .s1 .given .1) ((p2 .first .ensures) (skipped (namesIn (s .args .names .now)))
             (p4 .fresh .ensures) (p3 .fresh2 .ensures))),
       ),
       (
         made-for (prepared-at (p1 .s1 .given .1) ((p2 .first .ensures) (skipped (namesIn
-            (s .args .k .now))) (p4 .fresh .ensures) (p3 .fresh2 .ensures))) .rep,
+            (s .args .names .now))) (p4 .fresh .ensures) (p3 .fresh2 .ensures))) .rep,
         (s .pre .1 .1 .0),
       ),
     )
@@ -107,8 +107,8 @@ returns t c =
       one-is = (p4 .fresh .ensures);
       two-is = (p3 .fresh2 .ensures);
       is = asked-lacks M.byRight
-          (skipped (namesIn (s .args .k .now)))
-          (prepared-at (p1 .n .given .1) ((p2 .first .ensures) (skipped (namesIn (s .args .k .now))) (p4 .fresh .ensures)
+          (skipped (namesIn (s .args .names .now)))
+          (prepared-at (p1 .n .given .1) ((p2 .first .ensures) (skipped (namesIn (s .args .names .now))) (p4 .fresh .ensures)
           (p3 .fresh2 .ensures)));
     }
 
@@ -144,6 +144,6 @@ returns-2 t c =
       one-is = (p5 .fresh .ensures);
       two-is = (p4 .fresh2 .ensures);
       is = asked-by
-          (prepared-at (p2 .s1 .given .1) ((p3 .first .ensures) (skipped (namesIn (s .args .k .now))) (p5 .fresh .ensures)
+          (prepared-at (p2 .s1 .given .1) ((p3 .first .ensures) (skipped (namesIn (s .args .names .now))) (p5 .fresh .ensures)
           (p4 .fresh2 .ensures))) (p1 .right .ensures);
     }

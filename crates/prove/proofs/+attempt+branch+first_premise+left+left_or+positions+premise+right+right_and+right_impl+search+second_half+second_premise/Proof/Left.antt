@@ -7,9 +7,9 @@ use lib.ListN.{length}
 use Rattle.theory.specs.NameText.{namesIn}
 use Rattle.theory.specs.Names.{skipped}
 use Rattle.theory.specs.Meter as M
-use Rattle.representation.specs.Reading.{lent}
-use Rattle.representation.specs.Meaning.{weigh, Onward}
-use Rattle.premises.proofs.LeftWays.{onward-refl, onward-trans, turn-goes, turn-ends, turn-parts, turn-tries}
+use Rattle.search_laws.specs.Reading.{lent}
+use Rattle.search_laws.specs.Meaning.{weigh, Onward}
+use Rattle.search_premises.proofs.LeftWays.{onward-refl, onward-trans, turn-goes, turn-ends, turn-parts, turn-tries}
 use Rattle.prove.proofs.Generated.left.Reads as left
 use Rattle.prove.proofs.Generated.left.Lts as left-lts
 use Rattle.prove.proofs.+attempt+branch+first_premise+left+left_or+positions+premise+right+right_and+right_impl+search+second_half+second_premise.Proof.Claims.{left-at, left-claims}

@@ -8,11 +8,11 @@ use Rattle.theory.specs.NameText.{namesIn}
 use Rattle.theory.specs.Names.{skipped}
 use Rattle.theory.specs.Meter as M
 use Rattle.context.specs.Area.{formulaAt, termAt}
-use Rattle.representation.specs.Reading.{leftAt}
-use Rattle.representation.proofs.Falls.{weigh-back}
-use Rattle.rules.proofs.LeftMakes.{first-near}
-use Rattle.premises.proofs.Asking.{asked-at, found-back}
-use Rattle.premises.proofs.LeftWays.{halves-of, splits-back, right-back, or-lost, or-lost-second, or-found}
+use Rattle.search_laws.specs.Reading.{leftAt}
+use Rattle.search_laws.proofs.Falls.{weigh-back}
+use Rattle.search_left.proofs.LeftMakes.{first-near}
+use Rattle.search_premises.proofs.Asking.{asked-at, found-back}
+use Rattle.search_premises.proofs.LeftWays.{halves-of, splits-back, right-back, or-lost, or-lost-second, or-found}
 use Rattle.prove.proofs.Generated.left_or.Reads as left-or
 use Rattle.prove.proofs.Generated.left_or.Lts as left-or-lts
 use Rattle.prove.proofs.+attempt+branch+first_premise+left+left_or+positions+premise+right+right_and+right_impl+search+second_half+second_premise.Proof.Claims.{left-or-at, left-or-claims}
@@ -47,7 +47,7 @@ branch-requires t c κs =
           s .pre .1 .1 .0,
           (
             rw (c .left .ensures) (halves-of (skipped (namesIn
-                (s .args .k .now))) (s .pre .1 .0) (s .pre .1 .1 .1) ((p3 .formula-at .ensures) ∙ ap (formulaAt (s .args .w .now))
+                (s .args .names .now))) (s .pre .1 .0) (s .pre .1 .1 .1) ((p3 .formula-at .ensures) ∙ ap (formulaAt (s .args .work .now))
                 (p4 .top .ensures)) .0),
             (p2 .fresh .ensures),
           ),
@@ -83,10 +83,10 @@ branch-requires-2 t c κs =
         (
           s .pre .1 .1 .0,
           (
-            rw (c .right .ensures) (halves-of (skipped (namesIn (s .args .k .now))) (b .rep) (splits-back
-                (skipped (namesIn (s .args .k .now))) (s .pre .1 .0) (s .pre .1 .1 .1) b) ((right-back (skipped (namesIn (s .args .k .now)))
+            rw (c .right .ensures) (halves-of (skipped (namesIn (s .args .names .now))) (b .rep) (splits-back
+                (skipped (namesIn (s .args .names .now))) (s .pre .1 .0) (s .pre .1 .1 .1) b) ((right-back (skipped (namesIn (s .args .names .now)))
                 (s .pre .1 .0) (s .pre .1 .1 .1) ((found-back (s .pre .1 .0) (asked-at (p3 .i .given .1) (p4 .branch .ensures))) .0)
-                ((p5 .formula-at .ensures) ∙ ap (formulaAt (s .args .w .now)) (p6 .top .ensures))) .0) .1),
+                ((p5 .formula-at .ensures) ∙ ap (formulaAt (s .args .work .now)) (p6 .top .ensures))) .0) .1),
             (p2 .fresh2 .ensures),
           ),
         ),
@@ -102,7 +102,7 @@ add-close t c =
     .before .before .before .before .before .before .before .before .before .before .before .before .before .before
     .before .before .before in
     let s = p1 .before .before .before .before .before .before .before .before .before in
-    omega (arith, first-near (s .pre .1 .0) (s .args .k .now) (s .pre .1 .1 .0) (p1 .fresh .ensures))
+    omega (arith, first-near (s .pre .1 .0) (s .args .names .now) (s .pre .1 .1 .0) (p1 .fresh .ensures))
 
 pub add-close-2 : (t : ℕ) → left-or-lts.Need-add-close-2 (left-or-claims t) (left-or-at t) left-or.Post
 add-close-2 t c =
@@ -111,7 +111,7 @@ add-close-2 t c =
     let p3 = p2 .before .before .before .before .before .before .before in
     let s = p3 .before .before .before .before .before .before .before .before .before .before .before .before .before .before .before in
     let b = (found-back (s .pre .1 .0) (asked-at (p2 .i .given .1) (p3 .branch .ensures))) .0 in omega
-    (arith, first-near (b .rep) (s .args .k .now) (s .pre .1 .1 .0) (p1 .fresh2 .ensures))
+    (arith, first-near (b .rep) (s .args .names .now) (s .pre .1 .1 .0) (p1 .fresh2 .ensures))
 
 pub close-requires : (t : ℕ) → left-or-lts.Need-close-requires (left-or-claims t) (left-or-at t) left-or.Post
 close-requires t c κs =
@@ -173,12 +173,12 @@ returns t c =
     let p11 = p10 .before .before in
     let p12 = p11 .before .before in
     let s = p12 .before .before .before .before in
-    or-found (skipped (namesIn (s .args .k .now))) (s .pre .1 .0) (s .pre .1 .1 .1) (p9 .fresh .ensures)
-    ((p8 .left .ensures) ∙ ap (leftAt (s .args .f .now)) ((p11 .formula-at .ensures) ∙ ap (formulaAt (s .args .w .now))
-    (p12 .top .ensures))) (asked-at (p6 .i .given .1) (p7 .branch .ensures)) ((p10 .term-at .ensures) ∙ ap (termAt (s .args .w .now))
-    (p12 .top .ensures)) ((p4 .right .ensures) ∙ (right-back (skipped (namesIn (s .args .k .now))) (s .pre .1 .0) (s .pre .1 .1 .1)
+    or-found (skipped (namesIn (s .args .names .now))) (s .pre .1 .0) (s .pre .1 .1 .1) (p9 .fresh .ensures)
+    ((p8 .left .ensures) ∙ ap (leftAt (s .args .words .now)) ((p11 .formula-at .ensures) ∙ ap (formulaAt (s .args .work .now))
+    (p12 .top .ensures))) (asked-at (p6 .i .given .1) (p7 .branch .ensures)) ((p10 .term-at .ensures) ∙ ap (termAt (s .args .work .now))
+    (p12 .top .ensures)) ((p4 .right .ensures) ∙ (right-back (skipped (namesIn (s .args .names .now))) (s .pre .1 .0) (s .pre .1 .1 .1)
     ((found-back (s .pre .1 .0) (asked-at (p6 .i .given .1) (p7 .branch .ensures))) .0) ((p11 .formula-at .ensures) ∙ ap (formulaAt
-    (s .args .w .now)) (p12 .top .ensures))) .1) (p5 .fresh2 .ensures) (asked-at (p2 .j .given .1) (p3 .branch2 .ensures))
+    (s .args .work .now)) (p12 .top .ensures))) .1) (p5 .fresh2 .ensures) (asked-at (p2 .j .given .1) (p3 .branch2 .ensures))
     ((p1 .close .ensures) (case _ _ _ _ _) refl)
 
 pub same-length-4 : (t : ℕ) → left-or-lts.Need-same-length-4 (left-or-claims t) (left-or-at t) left-or.Post
@@ -213,12 +213,12 @@ returns-2 t c =
     let p10 = p9 .before .before in
     let p11 = p10 .before .before in
     let s = p11 .before .before .before .before in
-    or-lost-second (skipped (namesIn (s .args .k .now))) (s .pre .1 .0) (s .pre .1 .1 .1) (p8 .fresh .ensures)
-    ((p7 .left .ensures) ∙ ap (leftAt (s .args .f .now)) ((p10 .formula-at .ensures) ∙ ap (formulaAt (s .args .w .now))
-    (p11 .top .ensures))) (asked-at (p5 .i .given .1) (p6 .branch .ensures)) ((p9 .term-at .ensures) ∙ ap (termAt (s .args .w .now))
-    (p11 .top .ensures)) ((p3 .right .ensures) ∙ (right-back (skipped (namesIn (s .args .k .now))) (s .pre .1 .0) (s .pre .1 .1 .1)
+    or-lost-second (skipped (namesIn (s .args .names .now))) (s .pre .1 .0) (s .pre .1 .1 .1) (p8 .fresh .ensures)
+    ((p7 .left .ensures) ∙ ap (leftAt (s .args .words .now)) ((p10 .formula-at .ensures) ∙ ap (formulaAt (s .args .work .now))
+    (p11 .top .ensures))) (asked-at (p5 .i .given .1) (p6 .branch .ensures)) ((p9 .term-at .ensures) ∙ ap (termAt (s .args .work .now))
+    (p11 .top .ensures)) ((p3 .right .ensures) ∙ (right-back (skipped (namesIn (s .args .names .now))) (s .pre .1 .0) (s .pre .1 .1 .1)
     ((found-back (s .pre .1 .0) (asked-at (p5 .i .given .1) (p6 .branch .ensures))) .0) ((p10 .formula-at .ensures) ∙ ap (formulaAt
-    (s .args .w .now)) (p11 .top .ensures))) .1) (p4 .fresh2 .ensures) tt (asked-at (p1 .s2 .given .1) (p2 .branch2 .ensures))
+    (s .args .work .now)) (p11 .top .ensures))) .1) (p4 .fresh2 .ensures) tt (asked-at (p1 .s2 .given .1) (p2 .branch2 .ensures))
 
 pub same-length-7 : (t : ℕ) → left-or-lts.Need-same-length-7 (left-or-claims t) (left-or-at t) left-or.Post
 same-length-7 t c =
@@ -252,12 +252,12 @@ returns-3 t c =
     let p10 = p9 .before .before in
     let p11 = p10 .before .before in
     let s = p11 .before .before .before .before in
-    or-lost-second (skipped (namesIn (s .args .k .now))) (s .pre .1 .0) (s .pre .1 .1 .1) (p8 .fresh .ensures)
-    ((p7 .left .ensures) ∙ ap (leftAt (s .args .f .now)) ((p10 .formula-at .ensures) ∙ ap (formulaAt (s .args .w .now))
-    (p11 .top .ensures))) (asked-at (p5 .i .given .1) (p6 .branch .ensures)) ((p9 .term-at .ensures) ∙ ap (termAt (s .args .w .now))
-    (p11 .top .ensures)) ((p3 .right .ensures) ∙ (right-back (skipped (namesIn (s .args .k .now))) (s .pre .1 .0) (s .pre .1 .1 .1)
+    or-lost-second (skipped (namesIn (s .args .names .now))) (s .pre .1 .0) (s .pre .1 .1 .1) (p8 .fresh .ensures)
+    ((p7 .left .ensures) ∙ ap (leftAt (s .args .words .now)) ((p10 .formula-at .ensures) ∙ ap (formulaAt (s .args .work .now))
+    (p11 .top .ensures))) (asked-at (p5 .i .given .1) (p6 .branch .ensures)) ((p9 .term-at .ensures) ∙ ap (termAt (s .args .work .now))
+    (p11 .top .ensures)) ((p3 .right .ensures) ∙ (right-back (skipped (namesIn (s .args .names .now))) (s .pre .1 .0) (s .pre .1 .1 .1)
     ((found-back (s .pre .1 .0) (asked-at (p5 .i .given .1) (p6 .branch .ensures))) .0) ((p10 .formula-at .ensures) ∙ ap (formulaAt
-    (s .args .w .now)) (p11 .top .ensures))) .1) (p4 .fresh2 .ensures) tt (asked-at (p1 .n .given .1) (p2 .branch2 .ensures))
+    (s .args .work .now)) (p11 .top .ensures))) .1) (p4 .fresh2 .ensures) tt (asked-at (p1 .n .given .1) (p2 .branch2 .ensures))
 
 pub same-length-10 : (t : ℕ) → left-or-lts.Need-same-length-10 (left-or-claims t) (left-or-at t) left-or.Post
 same-length-10 t c =
@@ -283,8 +283,8 @@ returns-4 t c =
     let p5 = p4 .before .before .before in
     let p6 = p5 .before .before in
     let s = p6 .before .before .before .before in
-    or-lost (skipped (namesIn (s .args .k .now))) (s .pre .1 .0) (s .pre .1 .1 .1) (p4 .fresh .ensures)
-    ((p3 .left .ensures) ∙ ap (leftAt (s .args .f .now)) ((p5 .formula-at .ensures) ∙ ap (formulaAt (s .args .w .now))
+    or-lost (skipped (namesIn (s .args .names .now))) (s .pre .1 .0) (s .pre .1 .1 .1) (p4 .fresh .ensures)
+    ((p3 .left .ensures) ∙ ap (leftAt (s .args .words .now)) ((p5 .formula-at .ensures) ∙ ap (formulaAt (s .args .work .now))
     (p6 .top .ensures))) tt (asked-at (p1 .s .given .1) (p2 .branch .ensures))
 
 pub same-length-13 : (t : ℕ) → left-or-lts.Need-same-length-13 (left-or-claims t) (left-or-at t) left-or.Post
@@ -311,6 +311,6 @@ returns-5 t c =
     let p5 = p4 .before .before .before in
     let p6 = p5 .before .before in
     let s = p6 .before .before .before .before in
-    or-lost (skipped (namesIn (s .args .k .now))) (s .pre .1 .0) (s .pre .1 .1 .1) (p4 .fresh .ensures)
-    ((p3 .left .ensures) ∙ ap (leftAt (s .args .f .now)) ((p5 .formula-at .ensures) ∙ ap (formulaAt (s .args .w .now))
+    or-lost (skipped (namesIn (s .args .names .now))) (s .pre .1 .0) (s .pre .1 .1 .1) (p4 .fresh .ensures)
+    ((p3 .left .ensures) ∙ ap (leftAt (s .args .words .now)) ((p5 .formula-at .ensures) ∙ ap (formulaAt (s .args .work .now))
     (p6 .top .ensures))) tt (asked-at (p1 .n2 .given .1) (p2 .branch .ensures))

@@ -8,9 +8,9 @@ use lib.ListN.{length}
 use Rattle.theory.specs.NameText.{namesIn}
 use Rattle.theory.specs.Names.{skipped}
 use Rattle.theory.specs.Meter as M
-use Rattle.representation.specs.Reading.{lent}
-use Rattle.representation.proofs.Ranging.{Going, going-starts, going-skips, going-fails, ranges-found, ranges-short, ranges-end}
-use Rattle.representation.proofs.Falls.{weigh-back}
+use Rattle.search_laws.specs.Reading.{lent}
+use Rattle.search_laws.proofs.Ranging.{Going, going-starts, going-skips, going-fails, ranges-found, ranges-short, ranges-end}
+use Rattle.search_laws.proofs.Falls.{weigh-back}
 use Rattle.prove.proofs.At.{tries-at, nested-yes, nested-no}
 use Rattle.prove.proofs.Generated.positions.Reads as positions
 use Rattle.prove.proofs.Generated.positions.Lts as positions-lts
@@ -143,7 +143,7 @@ loop-again-2 t c =
       (p4 .loop .inv .1),
       (p4 .loop .inv .2),
       going-skips ((p4 .loop .inv .3)) (p3 .if1 .taken) (nested-no (skipped
-          (namesIn (s .args .k .now))) ((p4 .loop .inv .3 .past .back .rep)) (s .pre .1 .1 .1) (p3 .if1 .taken) (sym (p2 .nested .ensures) ∙
+          (namesIn (s .args .names .now))) ((p4 .loop .inv .3 .past .back .rep)) (s .pre .1 .1 .1) (p3 .if1 .taken) (sym (p2 .nested .ensures) ∙
           (c .if2 .left))),
     )
 

@@ -3,9 +3,9 @@ use Prim.Native.Nat.{ℕ}
 use borrow.Fn.PlainCycle.{is}
 use borrow.Author.Needs.{needs}
 use native.Mathlib.Omega.{arith}
-use Rattle.premises.specs.Asked.{raised-lacks}
-use Rattle.premises.proofs.Makes.{copy-room, up-room}
-use Rattle.premises.proofs.Asking.{raised-rep, raised-by, raised-weighs}
+use Rattle.search_premises.specs.Asked.{raised-lacks}
+use Rattle.search_premises.proofs.Makes.{copy-room, up-room}
+use Rattle.search_premises.proofs.Asking.{raised-rep, raised-by, raised-weighs}
 use Rattle.prove.proofs.Generated.premise.Reads as premise
 use Rattle.prove.proofs.Generated.premise.Lts as premise-lts
 use Rattle.prove.proofs.+attempt+branch+first_premise+left+left_or+positions+premise+right+right_and+right_impl+search+second_half+second_premise.Proof.Claims.{premise-at, premise-claims}

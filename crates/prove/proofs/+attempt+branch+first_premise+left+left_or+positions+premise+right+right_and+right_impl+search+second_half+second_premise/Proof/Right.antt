@@ -7,10 +7,10 @@ use Rattle.theory.specs.Term.{unit, sixOf}
 use Rattle.theory.specs.NameText.{namesIn}
 use Rattle.theory.specs.Names.{skipped}
 use Rattle.theory.specs.Meter as M
-use Rattle.representation.proofs.Combine.{stop, entered}
-use Rattle.representation.proofs.Right.{right-true, right-else}
-use Rattle.representation.proofs.FallsRight.{right-to-left}
-use Rattle.premises.proofs.Asking.{rep-step, weigh-step}
+use Rattle.search_laws.proofs.Combine.{stop, entered}
+use Rattle.search_laws.proofs.Right.{right-true, right-else}
+use Rattle.search_laws.proofs.FallsRight.{right-to-left}
+use Rattle.search_premises.proofs.Asking.{rep-step, weigh-step}
 use Rattle.prove.proofs.Generated.right.Reads as right
 use Rattle.prove.proofs.Generated.right.Lts as right-lts
 use Rattle.prove.proofs.+attempt+branch+first_premise+left+left_or+positions+premise+right+right_and+right_impl+search+second_half+second_premise.Proof.Claims.{right-at, right-claims}
@@ -82,7 +82,7 @@ left-requires t c κs =
         (s .pre .0),
         weigh-step (s .pre .1 .0) (p2 .if1 .left) (p1 .counted .ensures) M.byRight,
         right-to-left
-            (s .args .f .now) ((p1 .counted .result .formulas)) (s .args .w .now) (s .args .q),
+            (s .args .words .now) ((p1 .counted .result .formulas)) (s .args .work .now) (s .args .sequent),
       ),
       (
         (rep-step (s .pre .1 .0) (p2 .if1 .left)
@@ -111,7 +111,7 @@ returns-2 t c =
     let p5 = p4 .before in
     let s = p5 .before .before .before .before .before .before in
     entered (p5 .if1 .left) (p4 .counted .ensures)
-    (right-true (skipped (namesIn (s .args .k .now))) (rep-step (s .pre .1 .0) (p5 .if1 .left) (p4 .counted .ensures)) (sym
+    (right-true (skipped (namesIn (s .args .names .now))) (rep-step (s .pre .1 .0) (p5 .if1 .left) (p4 .counted .ensures)) (sym
     (p3 .kind .ensures) ∙ (p2 .if2 .taken)) ((p1 .close .ensures) unit refl))
 
 pub same-length-3 : (t : ℕ) → right-lts.Need-same-length-3 (right-claims t) (right-at t) right.Post
@@ -184,6 +184,6 @@ returns-5 t c =
     let p7 = p6 .before in
     let s = p7 .before .before .before .before .before .before in
     entered (p7 .if1 .left) (p6 .counted .ensures)
-    (right-else (skipped (namesIn (s .args .k .now))) (rep-step (s .pre .1 .0) (p7 .if1 .left) (p6 .counted .ensures)) (λ z.
+    (right-else (skipped (namesIn (s .args .names .now))) (rep-step (s .pre .1 .0) (p7 .if1 .left) (p6 .counted .ensures)) (λ z.
     (p4 .if2 .left) ((p5 .kind .ensures) ∙ z)) (λ z. (p3 .if3 .left) ((p5 .kind .ensures) ∙ z)) (λ z. (p2 .if4 .left)
     ((p5 .kind .ensures) ∙ z)) (p1 .left .ensures))

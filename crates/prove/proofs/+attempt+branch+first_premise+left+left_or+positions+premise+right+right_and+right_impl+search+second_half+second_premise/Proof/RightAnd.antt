@@ -7,11 +7,11 @@ use Rattle.theory.specs.Term.{pair, sixOf}
 use Rattle.theory.specs.NameText.{namesIn}
 use Rattle.theory.specs.Names.{skipped}
 use Rattle.theory.specs.Meter as M
-use Rattle.representation.proofs.Falls.{weigh-back}
-use Rattle.premises.proofs.Asking.{raised-at, raised-found}
-use Rattle.premises.proofs.Asking.{kind-back}
-use Rattle.premises.proofs.RightWays.{and-lost, and-lost-second, and-found}
-use Rattle.premises.proofs.Less.{and-left-less, and-right-less}
+use Rattle.search_laws.proofs.Falls.{weigh-back}
+use Rattle.search_premises.proofs.Asking.{raised-at, raised-found}
+use Rattle.search_premises.proofs.Asking.{kind-back}
+use Rattle.search_premises.proofs.RightWays.{and-lost, and-lost-second, and-found}
+use Rattle.search_premises.proofs.Less.{and-left-less, and-right-less}
 use Rattle.prove.proofs.Generated.right_and.Reads as right-and
 use Rattle.prove.proofs.Generated.right_and.Lts as right-and-lts
 use Rattle.prove.proofs.+attempt+branch+first_premise+left+left_or+positions+premise+right+right_and+right_impl+search+second_half+second_premise.Proof.Claims.{right-and-at, right-and-claims}
@@ -100,7 +100,7 @@ returns t c =
     let p6 = p5 .before .before .before .before .before .before .before in
     let p7 = p6 .before .before .before .before in
     let s = p7 .before .before .before .before .before in
-    and-found (skipped (namesIn (s .args .k .now))) (s .pre .1 .0) (s .pre .1 .1 .1) (p7 .left .ensures)
+    and-found (skipped (namesIn (s .args .names .now))) (s .pre .1 .0) (s .pre .1 .1 .1) (p7 .left .ensures)
     (raised-at (p5 .i .given .1) (p6 .premise .ensures)) (p4 .right .ensures) (raised-at (p2 .j .given .1) (p3 .premise2 .ensures))
     ((p1 .close .ensures) (pair _ _) refl)
 
@@ -131,7 +131,7 @@ returns-2 t c =
     let p5 = p4 .before .before .before .before .before .before .before in
     let p6 = p5 .before .before .before .before in
     let s = p6 .before .before .before .before .before in
-    and-lost-second (skipped (namesIn (s .args .k .now))) (s .pre .1 .0) (s .pre .1 .1 .1) (p6 .left .ensures)
+    and-lost-second (skipped (namesIn (s .args .names .now))) (s .pre .1 .0) (s .pre .1 .1 .1) (p6 .left .ensures)
     (raised-at (p4 .i .given .1) (p5 .premise .ensures)) (p3 .right .ensures) tt
     (raised-at (p1 .s2 .given .1) (p2 .premise2 .ensures))
 
@@ -162,7 +162,7 @@ returns-3 t c =
     let p5 = p4 .before .before .before .before .before .before .before in
     let p6 = p5 .before .before .before .before in
     let s = p6 .before .before .before .before .before in
-    and-lost-second (skipped (namesIn (s .args .k .now))) (s .pre .1 .0) (s .pre .1 .1 .1) (p6 .left .ensures)
+    and-lost-second (skipped (namesIn (s .args .names .now))) (s .pre .1 .0) (s .pre .1 .1 .1) (p6 .left .ensures)
     (raised-at (p4 .i .given .1) (p5 .premise .ensures)) (p3 .right .ensures) tt (raised-at (p1 .n .given .1) (p2 .premise2 .ensures))
 
 pub same-length-10 : (t : ℕ) → right-and-lts.Need-same-length-10 (right-and-claims t) (right-and-at t) right-and.Post
@@ -186,7 +186,7 @@ returns-4 t c =
     let p2 = p1 .before .before .before .before .before .before .before in
     let p3 = p2 .before .before .before .before in
     let s = p3 .before .before .before .before .before in
-    and-lost (skipped (namesIn (s .args .k .now))) (s .pre .1 .0) (s .pre .1 .1 .1) (p3 .left .ensures) tt
+    and-lost (skipped (namesIn (s .args .names .now))) (s .pre .1 .0) (s .pre .1 .1 .1) (p3 .left .ensures) tt
     (raised-at (p1 .s .given .1) (p2 .premise .ensures))
 
 pub same-length-13 : (t : ℕ) → right-and-lts.Need-same-length-13 (right-and-claims t) (right-and-at t) right-and.Post
@@ -210,5 +210,5 @@ returns-5 t c =
     let p2 = p1 .before .before .before .before .before .before .before in
     let p3 = p2 .before .before .before .before in
     let s = p3 .before .before .before .before .before in
-    and-lost (skipped (namesIn (s .args .k .now))) (s .pre .1 .0) (s .pre .1 .1 .1) (p3 .left .ensures) tt
+    and-lost (skipped (namesIn (s .args .names .now))) (s .pre .1 .0) (s .pre .1 .1 .1) (p3 .left .ensures) tt
     (raised-at (p1 .n2 .given .1) (p2 .premise .ensures))

@@ -6,9 +6,9 @@ use mathlib.Core.Path.{refl}
 use Rattle.theory.specs.Term.{fn, sixOf}
 use Rattle.theory.specs.NameText.{namesIn}
 use Rattle.theory.specs.Names.{skipped}
-use Rattle.rules.proofs.LeftMakes.{first-near}
-use Rattle.premises.proofs.Asking.{prepared-at, made-for}
-use Rattle.premises.proofs.RightWays.{impl-lacks, impl-falls, impl-lost, impl-found}
+use Rattle.search_left.proofs.LeftMakes.{first-near}
+use Rattle.search_premises.proofs.Asking.{prepared-at, made-for}
+use Rattle.search_premises.proofs.RightWays.{impl-lacks, impl-falls, impl-lost, impl-found}
 use Rattle.prove.proofs.At.{meets-at}
 use Rattle.prove.proofs.Generated.right_impl.Reads as right-impl
 use Rattle.prove.proofs.Generated.right_impl.Lts as right-impl-lts
@@ -21,7 +21,7 @@ pub body-requires : (t : ℕ) → right-impl-lts.Need-body-requires (right-impl-
 body-requires t c κs =
     let p1 = c .before .before .before in
     let s = p1 .before .before .before .before in
-    (s .pre .1 .0, (s .pre .1 .1 .1, omega (arith, first-near (s .pre .1 .0) (s .args .k .now) (s .pre .1 .1 .0) (p1 .fresh .ensures))))
+    (s .pre .1 .0, (s .pre .1 .1 .1, omega (arith, first-near (s .pre .1 .0) (s .args .names .now) (s .pre .1 .1 .0) (p1 .fresh .ensures))))
 
 pub enum-known-n : (t : ℕ) → right-impl-lts.Need-enum-known-n (right-impl-claims t) (right-impl-at t) right-impl.Post
 enum-known-n t c = search needs
@@ -38,12 +38,12 @@ right-requires t c κs =
       omega (
         arith,
         (s .pre .0),
-        impl-falls (skipped (namesIn (s .args .k .now))) (s .pre .1 .0) (s .pre .1 .1 .1) (p3 .fresh .ensures)
-            (prepared-at (p1 .s1 .given .1) ((p2 .body .ensures) (skipped (namesIn (s .args .k .now))) (p3 .fresh .ensures))),
+        impl-falls (skipped (namesIn (s .args .names .now))) (s .pre .1 .0) (s .pre .1 .1 .1) (p3 .fresh .ensures)
+            (prepared-at (p1 .s1 .given .1) ((p2 .body .ensures) (skipped (namesIn (s .args .names .now))) (p3 .fresh .ensures))),
       ),
       (
         made-for
-            (prepared-at (p1 .s1 .given .1) ((p2 .body .ensures) (skipped (namesIn (s .args .k .now))) (p3 .fresh .ensures))) .rep,
+            (prepared-at (p1 .s1 .given .1) ((p2 .body .ensures) (skipped (namesIn (s .args .names .now))) (p3 .fresh .ensures))) .rep,
         (s .pre .1 .1 .0),
       ),
     )
@@ -56,7 +56,7 @@ add-close t c =
     let p1 = c .before .before .before .before .before .before .before .before .before .before .before .before .before
     .before .before .before .before .before .before .before .before .before .before in
     let s = p1 .before .before .before .before in
-    omega (arith, first-near (s .pre .1 .0) (s .args .k .now) (s .pre .1 .1 .0) (p1 .fresh .ensures))
+    omega (arith, first-near (s .pre .1 .0) (s .args .names .now) (s .pre .1 .1 .0) (p1 .fresh .ensures))
 
 pub close-requires : (t : ℕ) → right-impl-lts.Need-close-requires (right-impl-claims t) (right-impl-at t) right-impl.Post
 close-requires t c κs =
@@ -99,8 +99,8 @@ returns t c =
     let p2 = p1 .before .before .before .before .before in
     let p3 = p2 .before .before .before .before in
     let s = p3 .before .before .before .before in
-    impl-lacks (skipped (namesIn (s .args .k .now))) (s .pre .1 .0) (s .pre .1 .1 .1) (p3 .fresh .ensures)
-    (prepared-at (p1 .n .given .1) ((p2 .body .ensures) (skipped (namesIn (s .args .k .now))) (p3 .fresh .ensures)))
+    impl-lacks (skipped (namesIn (s .args .names .now))) (s .pre .1 .0) (s .pre .1 .1 .1) (p3 .fresh .ensures)
+    (prepared-at (p1 .n .given .1) ((p2 .body .ensures) (skipped (namesIn (s .args .names .now))) (p3 .fresh .ensures)))
 
 pub same-length-4 : (t : ℕ) → right-impl-lts.Need-same-length-4 (right-impl-claims t) (right-impl-at t) right-impl.Post
 same-length-4 t c =
@@ -133,8 +133,8 @@ returns-2 t c =
     let p5 = p4 .before .before .before .before .before in
     let p6 = p5 .before .before .before .before in
     let s = p6 .before .before .before .before in
-    impl-found (skipped (namesIn (s .args .k .now))) (s .pre .1 .0) (s .pre .1 .1 .1) (p6 .fresh .ensures)
-    (prepared-at (p4 .s1 .given .1) ((p5 .body .ensures) (skipped (namesIn (s .args .k .now))) (p6 .fresh .ensures)))
+    impl-found (skipped (namesIn (s .args .names .now))) (s .pre .1 .0) (s .pre .1 .1 .1) (p6 .fresh .ensures)
+    (prepared-at (p4 .s1 .given .1) ((p5 .body .ensures) (skipped (namesIn (s .args .names .now))) (p6 .fresh .ensures)))
     (meets-at (p2 .i .given .1) (p3 .right .ensures)) ((p1 .close .ensures) (fn _ _) refl)
 
 pub same-length-7 : (t : ℕ) → right-impl-lts.Need-same-length-7 (right-impl-claims t) (right-impl-at t) right-impl.Post
@@ -163,8 +163,8 @@ returns-3 t c =
     let p4 = p3 .before .before .before .before .before in
     let p5 = p4 .before .before .before .before in
     let s = p5 .before .before .before .before in
-    impl-lost (skipped (namesIn (s .args .k .now))) (s .pre .1 .0) (s .pre .1 .1 .1) (p5 .fresh .ensures)
-    (prepared-at (p3 .s1 .given .1) ((p4 .body .ensures) (skipped (namesIn (s .args .k .now))) (p5 .fresh .ensures))) tt
+    impl-lost (skipped (namesIn (s .args .names .now))) (s .pre .1 .0) (s .pre .1 .1 .1) (p5 .fresh .ensures)
+    (prepared-at (p3 .s1 .given .1) ((p4 .body .ensures) (skipped (namesIn (s .args .names .now))) (p5 .fresh .ensures))) tt
     (meets-at (p1 .s .given .1) (p2 .right .ensures))
 
 pub same-length-10 : (t : ℕ) → right-impl-lts.Need-same-length-10 (right-impl-claims t) (right-impl-at t) right-impl.Post
@@ -193,6 +193,6 @@ returns-4 t c =
     let p4 = p3 .before .before .before .before .before in
     let p5 = p4 .before .before .before .before in
     let s = p5 .before .before .before .before in
-    impl-lost (skipped (namesIn (s .args .k .now))) (s .pre .1 .0) (s .pre .1 .1 .1) (p5 .fresh .ensures)
-    (prepared-at (p3 .s1 .given .1) ((p4 .body .ensures) (skipped (namesIn (s .args .k .now))) (p5 .fresh .ensures))) tt
+    impl-lost (skipped (namesIn (s .args .names .now))) (s .pre .1 .0) (s .pre .1 .1 .1) (p5 .fresh .ensures)
+    (prepared-at (p3 .s1 .given .1) ((p4 .body .ensures) (skipped (namesIn (s .args .names .now))) (p5 .fresh .ensures))) tt
     (meets-at (p1 .n2 .given .1) (p2 .right .ensures))

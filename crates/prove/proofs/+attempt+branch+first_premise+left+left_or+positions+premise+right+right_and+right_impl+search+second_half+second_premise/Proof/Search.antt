@@ -7,12 +7,12 @@ use Rattle.theory.specs.Term.{inl, sixOf}
 use Rattle.theory.specs.NameText.{namesIn}
 use Rattle.theory.specs.Names.{skipped}
 use Rattle.theory.specs.Meter as M
-use Rattle.representation.proofs.Halves.{tries-else}
-use Rattle.representation.proofs.Falls.{weigh-back}
-use Rattle.premises.proofs.Asking.{raised-at, raised-found, raised-failed}
-use Rattle.premises.proofs.Asking.{kind-back}
-use Rattle.premises.proofs.SearchWays.{first-stops, first-found, first-fails}
-use Rattle.premises.proofs.Less.{or-left-less}
+use Rattle.search_laws.proofs.Halves.{tries-else}
+use Rattle.search_laws.proofs.Falls.{weigh-back}
+use Rattle.search_premises.proofs.Asking.{raised-at, raised-found, raised-failed}
+use Rattle.search_premises.proofs.Asking.{kind-back}
+use Rattle.search_premises.proofs.SearchWays.{first-stops, first-found, first-fails}
+use Rattle.search_premises.proofs.Less.{or-left-less}
 use Rattle.prove.proofs.Generated.search.Reads as search′
 use Rattle.prove.proofs.Generated.search.Lts as search-lts
 use Rattle.prove.proofs.+attempt+branch+first_premise+left+left_or+positions+premise+right+right_and+right_impl+search+second_half+second_premise.Proof.Claims.{search-at, search-claims}
@@ -46,7 +46,7 @@ returns t c =
     let p2 = p1 .before .before .before .before in
     let p3 = p2 .before in
     let s = p3 .before .before .before .before .before in
-    tries-else (skipped (namesIn (s .args .k .now))) (s .pre .1 .0) (λ z. (p2 .if1 .taken) ((p3 .kind .ensures) ∙ z))
+    tries-else (skipped (namesIn (s .args .names .now))) (s .pre .1 .0) (λ z. (p2 .if1 .taken) ((p3 .kind .ensures) ∙ z))
     (p1 .positions .ensures)
 
 pub left-requires : (t : ℕ) → search-lts.Need-left-requires (search-claims t) (search-at t) search′.Post
@@ -131,7 +131,7 @@ returns-2 t c =
     let p5 = p4 .before .before in
     let p6 = p5 .before in
     let s = p6 .before .before .before .before .before in
-    first-found (skipped (namesIn (s .args .k .now))) (s .pre .1 .0) (sym (p6 .kind .ensures) ∙ (p5 .if1 .left)) (p4 .left .ensures)
+    first-found (skipped (namesIn (s .args .names .now))) (s .pre .1 .0) (sym (p6 .kind .ensures) ∙ (p5 .if1 .left)) (p4 .left .ensures)
     (raised-at (p2 .i .given .1) (p3 .premise .ensures)) ((p1 .close .ensures) (inl _) refl)
 
 pub same-length-7 : (t : ℕ) → search-lts.Need-same-length-7 (search-claims t) (search-at t) search′.Post
@@ -162,7 +162,7 @@ returns-3 t c =
     let p6 = p5 .before .before in
     let p7 = p6 .before in
     let s = p7 .before .before .before .before .before in
-    first-fails (skipped (namesIn (s .args .k .now))) (s .pre .1 .0) (sym (p7 .kind .ensures) ∙ (p6 .if1 .left)) (p5 .left .ensures)
+    first-fails (skipped (namesIn (s .args .names .now))) (s .pre .1 .0) (sym (p7 .kind .ensures) ∙ (p6 .if1 .left)) (p5 .left .ensures)
     (raised-at (p3 .s .given .1) (p4 .premise .ensures)) (p2 .give-back .ensures) (p1 .second-half .ensures)
 
 pub same-length-10 : (t : ℕ) → search-lts.Need-same-length-10 (search-claims t) (search-at t) search′.Post
@@ -188,5 +188,5 @@ returns-4 t c =
     let p4 = p3 .before .before in
     let p5 = p4 .before in
     let s = p5 .before .before .before .before .before in
-    first-stops (skipped (namesIn (s .args .k .now))) (s .pre .1 .0) (sym (p5 .kind .ensures) ∙ (p4 .if1 .left)) (p3 .left .ensures)
+    first-stops (skipped (namesIn (s .args .names .now))) (s .pre .1 .0) (sym (p5 .kind .ensures) ∙ (p4 .if1 .left)) (p3 .left .ensures)
     (raised-at (p1 .n .given .1) (p2 .premise .ensures))

@@ -7,10 +7,10 @@ use Rattle.theory.specs.Term.{inr, sixOf}
 use Rattle.theory.specs.NameText.{namesIn}
 use Rattle.theory.specs.Names.{skipped}
 use Rattle.theory.specs.Meter as M
-use Rattle.representation.proofs.Falls.{weigh-back}
-use Rattle.premises.proofs.Asking.{raised-at, raised-found, raised-failed}
-use Rattle.premises.proofs.SearchWays.{half-stops, half-found, half-fails}
-use Rattle.premises.proofs.Less.{or-right-less}
+use Rattle.search_laws.proofs.Falls.{weigh-back}
+use Rattle.search_premises.proofs.Asking.{raised-at, raised-found, raised-failed}
+use Rattle.search_premises.proofs.SearchWays.{half-stops, half-found, half-fails}
+use Rattle.search_premises.proofs.Less.{or-right-less}
 use Rattle.prove.proofs.Generated.second_half.Reads as second-half
 use Rattle.prove.proofs.Generated.second_half.Lts as second-half-lts
 use Rattle.prove.proofs.+attempt+branch+first_premise+left+left_or+positions+premise+right+right_and+right_impl+search+second_half+second_premise.Proof.Claims.{second-half-at, second-half-claims}
@@ -80,7 +80,7 @@ returns t c =
     let p4 = p3 .before .before .before .before in
     let s = p4 .before .before .before .before .before in
     rw (sym (p4 .right .ensures))
-    (half-found (skipped (namesIn (s .args .k .now))) (s .pre .1 .0) _ (raised-at (p2 .i .given .1) (p3 .premise .ensures))
+    (half-found (skipped (namesIn (s .args .names .now))) (s .pre .1 .0) _ (raised-at (p2 .i .given .1) (p3 .premise .ensures))
     ((p1 .close .ensures) (inr _) refl))
 
 pub same-length-4 : (t : ℕ) → second-half-lts.Need-same-length-4 (second-half-claims t) (second-half-at t) second-half.Post
@@ -110,7 +110,7 @@ returns-2 t c =
     let p5 = p4 .before .before .before .before in
     let s = p5 .before .before .before .before .before in
     rw (sym (p5 .right .ensures))
-    (half-fails (skipped (namesIn (s .args .k .now))) (s .pre .1 .0) _ (raised-at (p3 .s .given .1) (p4 .premise .ensures))
+    (half-fails (skipped (namesIn (s .args .names .now))) (s .pre .1 .0) _ (raised-at (p3 .s .given .1) (p4 .premise .ensures))
     (p2 .give-back .ensures) (p1 .positions .ensures))
 
 pub same-length-7 : (t : ℕ) → second-half-lts.Need-same-length-7 (second-half-claims t) (second-half-at t) second-half.Post
@@ -135,4 +135,4 @@ returns-3 t c =
     let p3 = p2 .before .before .before .before in
     let s = p3 .before .before .before .before .before in
     rw (sym (p3 .right .ensures))
-    (half-stops (skipped (namesIn (s .args .k .now))) (s .pre .1 .0) _ (raised-at (p1 .n .given .1) (p2 .premise .ensures)))
+    (half-stops (skipped (namesIn (s .args .names .now))) (s .pre .1 .0) _ (raised-at (p1 .n .given .1) (p2 .premise .ensures)))

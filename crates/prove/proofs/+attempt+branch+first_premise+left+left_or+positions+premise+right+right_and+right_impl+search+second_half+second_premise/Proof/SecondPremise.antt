@@ -5,8 +5,8 @@ use native.Mathlib.Omega.{arith}
 use Rattle.theory.specs.NameText.{namesIn}
 use Rattle.theory.specs.Names.{skipped}
 use Rattle.theory.specs.Meter as M
-use Rattle.premises.proofs.Asking.{prepared-at, made-for, asked-lacks, asked-by}
-use Rattle.premises.proofs.SearchWays.{second-less}
+use Rattle.search_premises.proofs.Asking.{prepared-at, made-for, asked-lacks, asked-by}
+use Rattle.search_premises.proofs.SearchWays.{second-less}
 use Rattle.prove.proofs.Generated.second_premise.Reads as second-premise
 use Rattle.prove.proofs.Generated.second_premise.Lts as second-premise-lts
 use Rattle.prove.proofs.+attempt+branch+first_premise+left+left_or+positions+premise+right+right_and+right_impl+search+second_half+second_premise.Proof.Claims.{second-premise-at, second-premise-claims}
@@ -31,7 +31,7 @@ left-requires t c κs =
       omega (
         arith,
         (s .pre .0),
-        second-less (skipped (namesIn (s .args .k .now))) (s .pre .1 .0) (s .pre .1 .1 .1 .0) (prepared-at
+        second-less (skipped (namesIn (s .args .names .now))) (s .pre .1 .0) (s .pre .1 .1 .1 .0) (prepared-at
             (p1 .s1 .given .1) (p2 .second .ensures)),
       ),
       (
@@ -60,7 +60,7 @@ returns t c =
     let p1 = c .before in
     let p2 = p1 .before .before .before .before .before in
     let s = p2 .before .before .before .before .before .before .before in
-    asked-lacks M.byLeft (skipped (namesIn (s .args .k .now))) (prepared-at (p1 .n .given .1) (p2 .second .ensures))
+    asked-lacks M.byLeft (skipped (namesIn (s .args .names .now))) (prepared-at (p1 .n .given .1) (p2 .second .ensures))
 
 pub same-length-4 : (t : ℕ) → second-premise-lts.Need-same-length-4 (second-premise-claims t) (second-premise-at t) second-premise.Post
 same-length-4 t c =

@@ -1,14 +1,14 @@
 -- Made by tools/records.py from the sources; antt refuses it where it is stale. Assumes nothing.
 use Prim.Native.Nat
-use Rattle.context.proofs.Answer
-use Rattle.context.proofs.Answer.Laws
 use Rattle.context.proofs.Element
-use Rattle.context.proofs.Limits
-use Rattle.context.proofs.Limits.Laws as Laws'
-use Rattle.context.proofs.Sequent
-use Rattle.context.proofs.Sequent.Laws as Laws''
-use Rattle.context.proofs.State
-use Rattle.context.proofs.State.Laws as Laws'3
+use Rattle.meter.proofs.Answer
+use Rattle.meter.proofs.Answer.Laws
+use Rattle.meter.proofs.Limits
+use Rattle.meter.proofs.Limits.Laws as Laws'
+use Rattle.meter.proofs.Sequent
+use Rattle.meter.proofs.Sequent.Laws as Laws''
+use Rattle.meter.proofs.State
+use Rattle.meter.proofs.State.Laws as Laws'3
 use borrow.Author.Called
 use borrow.Enum.Known
 use borrow.Enum.Make
@@ -74,13 +74,13 @@ abbrev y0 : Syntax.Ty
 y0 = Syntax.tyInt Syntax.w64
 
 abbrev y1 : Syntax.Ty
-y1 = Syntax.tyStruct (99 ∷ 111 ∷ 110 ∷ 116 ∷ 101 ∷ 120 ∷ 116 ∷ 58 ∷ 58 ∷ 83 ∷ 116 ∷ 97 ∷ 116 ∷ 101 ∷ []) (Syntax.tcons y0 (Syntax.tcons
-    y0 (Syntax.tcons y0 (Syntax.tcons y0 Syntax.tnil))))
+y1 = Syntax.tyStruct (109 ∷ 101 ∷ 116 ∷ 101 ∷ 114 ∷ 58 ∷ 58 ∷ 83 ∷ 116 ∷ 97 ∷ 116 ∷ 101 ∷ []) (Syntax.tcons y0 (Syntax.tcons y0
+    (Syntax.tcons y0 (Syntax.tcons y0 Syntax.tnil))))
 
 abbrev y2 : Syntax.Ty
-y2 = Syntax.tyEnum (99 ∷ 111 ∷ 110 ∷ 116 ∷ 101 ∷ 120 ∷ 116 ∷ 58 ∷ 58 ∷ 65 ∷ 110 ∷ 115 ∷ 119 ∷ 101 ∷ 114 ∷ []) (Syntax.ttcons
-    (Syntax.tcons y0 (Syntax.tcons y1 Syntax.tnil)) (Syntax.ttcons (Syntax.tcons y1 Syntax.tnil) (Syntax.ttcons (Syntax.tcons y0
-    (Syntax.tcons y1 Syntax.tnil)) Syntax.ttnil)))
+y2 = Syntax.tyEnum (109 ∷ 101 ∷ 116 ∷ 101 ∷ 114 ∷ 58 ∷ 58 ∷ 65 ∷ 110 ∷ 115 ∷ 119 ∷ 101 ∷ 114 ∷ []) (Syntax.ttcons (Syntax.tcons y0
+    (Syntax.tcons y1 Syntax.tnil)) (Syntax.ttcons (Syntax.tcons y1 Syntax.tnil) (Syntax.ttcons (Syntax.tcons y0 (Syntax.tcons y1
+    Syntax.tnil)) Syntax.ttnil)))
 
 abbrev y3 : Syntax.Ty
 y3 = Syntax.tyInt Syntax.w32
@@ -233,8 +233,8 @@ abbrev y52 : Row.Entry
 y52 = (0, Rows.whole (Declared.row Answer.the-type))
 
 abbrev y53 : Syntax.Ty
-y53 = Syntax.tyStruct (99 ∷ 111 ∷ 110 ∷ 116 ∷ 101 ∷ 120 ∷ 116 ∷ 58 ∷ 58 ∷ 76 ∷ 105 ∷ 109 ∷ 105 ∷ 116 ∷ 115 ∷ []) (Syntax.tcons y0
-    (Syntax.tcons y0 (Syntax.tcons y0 (Syntax.tcons y0 Syntax.tnil))))
+y53 = Syntax.tyStruct (109 ∷ 101 ∷ 116 ∷ 101 ∷ 114 ∷ 58 ∷ 58 ∷ 76 ∷ 105 ∷ 109 ∷ 105 ∷ 116 ∷ 115 ∷ []) (Syntax.tcons y0 (Syntax.tcons y0
+    (Syntax.tcons y0 (Syntax.tcons y0 Syntax.tnil))))
 
 abbrev y54 : Row.Entry
 y54 = (5, Rows.any-gone y53)
@@ -243,7 +243,7 @@ abbrev y55 : Row.Entry
 y55 = (6, Rows.any-gone y1)
 
 abbrev y56 : Syntax.Ty
-y56 = Syntax.tyStruct (99 ∷ 111 ∷ 110 ∷ 116 ∷ 101 ∷ 120 ∷ 116 ∷ 58 ∷ 58 ∷ 83 ∷ 101 ∷ 113 ∷ 117 ∷ 101 ∷ 110 ∷ 116 ∷ []) (Syntax.tcons y0
+y56 = Syntax.tyStruct (109 ∷ 101 ∷ 116 ∷ 101 ∷ 114 ∷ 58 ∷ 58 ∷ 83 ∷ 101 ∷ 113 ∷ 117 ∷ 101 ∷ 110 ∷ 116 ∷ []) (Syntax.tcons y0
     (Syntax.tcons y0 (Syntax.tcons y0 (Syntax.tcons y0 Syntax.tnil))))
 
 abbrev y57 : Row.Entry
@@ -741,8 +741,7 @@ abbrev b21 : Syntax.Body
 b21 = Syntax.assign (Syntax.place 13 []) (Syntax.rvOpd (Syntax.copy (Syntax.place 27 ((Syntax.variant 1) ∷ (Syntax.field 1) ∷ []))))
 
 abbrev b22 : Syntax.Body
-b22 = Syntax.call "context::give_back" ((Syntax.copy (Syntax.place 6 [])) ∷ (Syntax.copy (Syntax.place 13 [])) ∷ []) (Syntax.place 35
-    [])
+b22 = Syntax.call "meter::give_back" ((Syntax.copy (Syntax.place 6 [])) ∷ (Syntax.copy (Syntax.place 13 [])) ∷ []) (Syntax.place 35 [])
 
 abbrev b23 : Syntax.Body
 b23 = Syntax.assign (Syntax.place 34 []) (Syntax.aggregate ((Syntax.int Syntax.w8 1) ∷ (Syntax.copy (Syntax.place 35 [])) ∷ []))
@@ -810,8 +809,7 @@ abbrev b43 : Syntax.Body
 b43 = Syntax.assign (Syntax.place 16 []) (Syntax.rvOpd (Syntax.copy (Syntax.place 19 ((Syntax.variant 1) ∷ (Syntax.field 1) ∷ []))))
 
 abbrev b44 : Syntax.Body
-b44 = Syntax.call "context::give_back" ((Syntax.copy (Syntax.place 6 [])) ∷ (Syntax.copy (Syntax.place 16 [])) ∷ []) (Syntax.place 36
-    [])
+b44 = Syntax.call "meter::give_back" ((Syntax.copy (Syntax.place 6 [])) ∷ (Syntax.copy (Syntax.place 16 [])) ∷ []) (Syntax.place 36 [])
 
 abbrev b45 : Syntax.Body
 b45 = Syntax.assign (Syntax.place 26 []) (Syntax.aggregate ((Syntax.int Syntax.w8 1) ∷ (Syntax.copy (Syntax.place 36 [])) ∷ []))
@@ -1750,9 +1748,9 @@ module _ (claims· : Claims) where
       abbrev pub Closed : Type 2
       Closed = (𝓤 : URA.URA M) (H : Wp.Heap 𝓤) (A : Atoms.Atoms 𝓤) (W : Kit.Given 𝓤 H A) (𝓣 : Wp.Tables 𝓤 H) (known0 : Plain.Known 𝓤 H A
           W 𝓣 4 ps·0 r·0 (claims· .0) (claims· .1) "prove::first_premise") (known1 : Plain.Known 𝓤 H A W 𝓣 4 ps·1 r·1 (claims· .2)
-          (claims· .3) "prove::second_premise") (known2 : Plain.Known 𝓤 H A W 𝓣 0 ps·2 r·2 (claims· .4) (claims· .5)
-          "context::give_back") → Statement.Triple 𝓤 (Wp.WpFn 𝓤 H (𝓣 .C) (𝓣 .Λ) (Function.fnOf 4 ps r xs m hs body)) (Function.plainOf 𝓤
-          H A 4 ps r Pre· Post·)
+          (claims· .3) "prove::second_premise") (known2 : Plain.Known 𝓤 H A W 𝓣 0 ps·2 r·2 (claims· .4) (claims· .5) "meter::give_back")
+          → Statement.Triple 𝓤 (Wp.WpFn 𝓤 H (𝓣 .C) (𝓣 .Λ) (Function.fnOf 4 ps r xs m hs body)) (Function.plainOf 𝓤 H A 4 ps r Pre·
+          Post·)
 
     module _ where
       abbrev at0 : Typed.TF T62 O2
@@ -2073,7 +2071,7 @@ module _ (claims· : Claims) where
         abbrev Knowns : Type 1
         Knowns = Plain.Known 𝓤 H A W 𝓣 4 ps·0 r·0 (claims· .0) (claims· .1) "prove::first_premise" × Plain.Known 𝓤 H A W 𝓣 4 ps·1 r·1
             (claims· .2) (claims· .3) "prove::second_premise" × Plain.Known 𝓤 H A W 𝓣 0 ps·2 r·2 (claims· .4) (claims· .5)
-            "context::give_back"
+            "meter::give_back"
 
       module _ (κs : Lifetimes.Lfts 4) (qs : Lifetimes.Shares 4) where
         abbrev g4 : List.List Row.Entry
@@ -2729,7 +2727,7 @@ module _ (claims· : Claims) where
 
           d10 : Typed.Typed 𝓤 H A 𝓣 E G69 b24 Δ2 at10
           d10 = Typed.s-seq 𝓤 H A W 𝓣 E G69 G70 b22 b23 Δ2 (Typed.both s66) at9 (Plain.t-call-plain 𝓤 H A W 𝓣 0 ps·2 r·2 (claims· .4)
-              (claims· .5) "context::give_back" (known .2) E (λ pos β. β) G69
+              (claims· .5) "meter::give_back" (known .2) E (λ pos β. β) G69
               (record { pos = 6; st = []; d = 0; at = λ x. x }, (record { pos = 13; st = []; d = 0; at = λ x. x }, tt)) 35 []
               (Call.sub-id 𝓤 H A W (G69 .slots)) (
                 (
@@ -3348,7 +3346,7 @@ module _ (claims· : Claims) where
 
           d57 : Typed.Typed 𝓤 H A 𝓣 E G92 b46 Δ1 at57
           d57 = Typed.s-seq 𝓤 H A W 𝓣 E G92 G93 b44 b45 Δ1 (Typed.both s89) at56 (Plain.t-call-plain 𝓤 H A W 𝓣 0 ps·2 r·2 (claims· .4)
-              (claims· .5) "context::give_back" (known .2) E (λ pos β. β) G92
+              (claims· .5) "meter::give_back" (known .2) E (λ pos β. β) G92
               (record { pos = 6; st = []; d = 0; at = λ x. x }, (record { pos = 16; st = []; d = 0; at = λ x. x }, tt)) 36 []
               (Call.sub-id 𝓤 H A W (G92 .slots)) (
                 (
@@ -3920,31 +3918,32 @@ module _ (claims· : Claims) where
 
       module _ (κs : Lifetimes.Lfts 4) where
         pub record Args : Type 0 where
-          pub f : Kinds.Den {n = 4} κs (MutSlice.pMutS (Referent.rtF (Referent.fInt Syntax.w32)) 0 tt)
-          pub t : Kinds.Den {n = 4} κs (MutSlice.pMutS (Referent.rtF (Referent.fInt Syntax.w16)) 1 tt)
-          pub w : Kinds.Den {n = 4} κs (MutSlice.pMutS Element.row 2 tt)
-          pub k : Kinds.Den {n = 4} κs (ShrSlice.pShrS (Referent.rtF (Referent.fInt Syntax.w8)) 3 tt)
-          pub m : Kinds.Den {n = 4} κs (Value.pVal record {
+          pub words : Kinds.Den {n = 4} κs (MutSlice.pMutS (Referent.rtF (Referent.fInt Syntax.w32)) 0 tt)
+          pub terms : Kinds.Den {n = 4} κs (MutSlice.pMutS (Referent.rtF (Referent.fInt Syntax.w16)) 1 tt)
+          pub work : Kinds.Den {n = 4} κs (MutSlice.pMutS Element.row 2 tt)
+          pub names : Kinds.Den {n = 4} κs (ShrSlice.pShrS (Referent.rtF (Referent.fInt Syntax.w8)) 3 tt)
+          pub limits : Kinds.Den {n = 4} κs (Value.pVal record {
             ty = Declared'.row Limits.the-type;
             one = Path'.refl;
-            val = Laws'5.val
-                Limits.the-type Laws'.the-laws;
+            val =
+                Laws'5.val Limits.the-type Laws'.the-laws;
             tells = Laws'5.tells Limits.the-type Laws'.the-laws;
-            still = Laws'5.still Limits.the-type
-                Laws'.the-copy Exit.yes;
+            still = Laws'5.still
+                Limits.the-type Laws'.the-copy Exit.yes;
             row = Rows.whole (Declared'.row Limits.the-type);
             rd = λ x. x;
             mk = λ x. x;
-          } λ M 𝓤 H A W. record {
-            copies = Laws'5.copy Limits.the-type Laws'.the-copy 𝓤 H A W;
-            lawful = Laws'5.lawful Limits.the-type Laws'.the-laws 𝓤 H A
-                W;
-            makes = Laws'5.makes Limits.the-type Laws'.the-plain 𝓤 H A;
-            in-mem = Local.mem-whole 𝓤 H A W (Declared'.row
-                Limits.the-type);
-            of-mem = Local.whole-mem 𝓤 H A W (Declared'.row Limits.the-type);
-          })
-          pub st : Kinds.Den {n = 4} κs (Value.pVal record {
+          } λ M
+              𝓤 H A W. record {
+                copies = Laws'5.copy Limits.the-type Laws'.the-copy 𝓤 H A W;
+                lawful = Laws'5.lawful Limits.the-type
+                    Laws'.the-laws 𝓤 H A W;
+                makes = Laws'5.makes Limits.the-type Laws'.the-plain 𝓤 H A;
+                in-mem = Local.mem-whole 𝓤 H A W
+                    (Declared'.row Limits.the-type);
+                of-mem = Local.whole-mem 𝓤 H A W (Declared'.row Limits.the-type);
+              })
+          pub state : Kinds.Den {n = 4} κs (Value.pVal record {
             ty = Declared'.row State.the-type;
             one = Path'.refl;
             val = Laws'5.val
@@ -3964,11 +3963,11 @@ module _ (claims· : Claims) where
                 State.the-type);
             of-mem = Local.whole-mem 𝓤 H A W (Declared'.row State.the-type);
           })
-          pub q : Kinds.Den {n = 4} κs (Value.pVal record {
+          pub sequent : Kinds.Den {n = 4} κs (Value.pVal record {
             ty = Declared'.row Sequent.the-type;
             one = Path'.refl;
-            val = Laws'5.val
-                Sequent.the-type Laws''.the-laws;
+            val =
+                Laws'5.val Sequent.the-type Laws''.the-laws;
             tells = Laws'5.tells Sequent.the-type Laws''.the-laws;
             still = Laws'5.still
                 Sequent.the-type Laws''.the-copy Exit.yes;
@@ -3988,7 +3987,7 @@ module _ (claims· : Claims) where
           pub i : Kinds.Den {n = 4} κs (Num.pNum Syntax.w64)
 
         abbrev pub dens : (a : Args) → Kinds.Dens κs ps
-        dens = λ a. (a .f, (a .t, (a .w, (a .k, (a .m, (a .st, (a .q, (a .i, tt))))))))
+        dens = λ a. (a .words, (a .terms, (a .work, (a .names, (a .limits, (a .state, (a .sequent, (a .i, tt))))))))
 
         module _ (args· : Args) where
           pub record Ranges : Type 0 where
@@ -4173,22 +4172,22 @@ module _ (claims· : Claims) where
       m11 = λ before given. s14 .next (m10 (before .before) (After-first-premise·gave before)) given
 
       module _ (before· : After-first-premise) where
-        pub record After-f·own : Type 0 where
+        pub record After-words·own : Type 0 where
           pub given : s14 .gives (m10 (before· .before) (After-first-premise·gave before·))
 
-      pub record After-f : Type 0 where
+      pub record After-words : Type 0 where
         pub before : After-first-premise
-        pub f : After-f·own before
+        pub words : After-words·own before
 
-      abbrev pub m12 : (before : After-f) → (given : s15 .gives (m11 (before .before) (before .f .given))) → Typed.Mo T18
-      m12 = λ before given. s15 .next (m11 (before .before) (before .f .given)) given
+      abbrev pub m12 : (before : After-words) → (given : s15 .gives (m11 (before .before) (before .words .given))) → Typed.Mo T18
+      m12 = λ before given. s15 .next (m11 (before .before) (before .words .given)) given
 
-      module _ (before· : After-f) where
+      module _ (before· : After-words) where
         pub record After-slice-known3·own : Type 0 where
-          pub given : s15 .gives (m11 (before· .before) (before· .f .given))
+          pub given : s15 .gives (m11 (before· .before) (before· .words .given))
 
       pub record After-slice-known3 : Type 0 where
-        pub before : After-f
+        pub before : After-words
         pub slice-known3 : After-slice-known3·own before
 
       abbrev pub m13 : (before : After-slice-known3) → (given : s18 .gives (m12 (before .before) (before .slice-known3 .given))) →
@@ -4196,22 +4195,22 @@ module _ (claims· : Claims) where
       m13 = λ before given. s18 .next (m12 (before .before) (before .slice-known3 .given)) given
 
       module _ (before· : After-slice-known3) where
-        pub record After-t·own : Type 0 where
+        pub record After-terms·own : Type 0 where
           pub given : s18 .gives (m12 (before· .before) (before· .slice-known3 .given))
 
-      pub record After-t : Type 0 where
+      pub record After-terms : Type 0 where
         pub before : After-slice-known3
-        pub t : After-t·own before
+        pub terms : After-terms·own before
 
-      abbrev pub m14 : (before : After-t) → (given : s19 .gives (m13 (before .before) (before .t .given))) → Typed.Mo T22
-      m14 = λ before given. s19 .next (m13 (before .before) (before .t .given)) given
+      abbrev pub m14 : (before : After-terms) → (given : s19 .gives (m13 (before .before) (before .terms .given))) → Typed.Mo T22
+      m14 = λ before given. s19 .next (m13 (before .before) (before .terms .given)) given
 
-      module _ (before· : After-t) where
+      module _ (before· : After-terms) where
         pub record After-slice-known4·own : Type 0 where
-          pub given : s19 .gives (m13 (before· .before) (before· .t .given))
+          pub given : s19 .gives (m13 (before· .before) (before· .terms .given))
 
       pub record After-slice-known4 : Type 0 where
-        pub before : After-t
+        pub before : After-terms
         pub slice-known4 : After-slice-known4·own before
 
       abbrev pub m15 : (before : After-slice-known4) → (given : s22 .gives (m14 (before .before) (before .slice-known4 .given))) →
@@ -4219,32 +4218,32 @@ module _ (claims· : Claims) where
       m15 = λ before given. s22 .next (m14 (before .before) (before .slice-known4 .given)) given
 
       module _ (before· : After-slice-known4) where
-        pub record After-w·own : Type 0 where
+        pub record After-work·own : Type 0 where
           pub given : s22 .gives (m14 (before· .before) (before· .slice-known4 .given))
 
-      pub record After-w : Type 0 where
+      pub record After-work : Type 0 where
         pub before : After-slice-known4
-        pub w : After-w·own before
+        pub work : After-work·own before
 
-      module _ (before· : After-w) where
+      module _ (before· : After-work) where
         pub record At-match-keys1·own : Type 0 where
-          pub keys1 : Run.OneOf (0 ∷ []) (Declared.tagOf Answer.the-type (Row.get 19 (T25 .locals) (m15 (before· .before) (before· .w
+          pub keys1 : Run.OneOf (0 ∷ []) (Declared.tagOf Answer.the-type (Row.get 19 (T25 .locals) (m15 (before· .before) (before· .work
               .given))))
 
       pub record At-match-keys1 : Type 0 where
-        pub before : After-w
+        pub before : After-work
         pub match : At-match-keys1·own before
 
       abbrev pub Need-enum-known-j : Type 0
-      Need-enum-known-j = (c : At-match-keys1) → s24 .asks (m15 (c .before .before) (c .before .w .given))
+      Need-enum-known-j = (c : At-match-keys1) → s24 .asks (m15 (c .before .before) (c .before .work .given))
 
-      abbrev pub m16 : (before : At-match-keys1) → (given : s24 .gives (m15 (before .before .before) (before .before .w .given))) →
+      abbrev pub m16 : (before : At-match-keys1) → (given : s24 .gives (m15 (before .before .before) (before .before .work .given))) →
           Typed.Mo T27
-      m16 = λ before given. s24 .next (m15 (before .before .before) (before .before .w .given)) given
+      m16 = λ before given. s24 .next (m15 (before .before .before) (before .before .work .given)) given
 
       module _ (before· : At-match-keys1) where
         pub record After-j·own : Type 0 where
-          pub given : s24 .gives (m15 (before· .before .before) (before· .before .w .given))
+          pub given : s24 .gives (m15 (before· .before .before) (before· .before .work .given))
 
       pub record After-j : Type 0 where
         pub before : At-match-keys1
@@ -4410,22 +4409,22 @@ module _ (claims· : Claims) where
       m31 = λ before given. s43 .next (m30 (before .before) (After-second-premise·gave before)) given
 
       module _ (before· : After-second-premise) where
-        pub record After-f2·own : Type 0 where
+        pub record After-words2·own : Type 0 where
           pub given : s43 .gives (m30 (before· .before) (After-second-premise·gave before·))
 
-      pub record After-f2 : Type 0 where
+      pub record After-words2 : Type 0 where
         pub before : After-second-premise
-        pub f2 : After-f2·own before
+        pub words2 : After-words2·own before
 
-      abbrev pub m32 : (before : After-f2) → (given : s44 .gives (m31 (before .before) (before .f2 .given))) → Typed.Mo T48
-      m32 = λ before given. s44 .next (m31 (before .before) (before .f2 .given)) given
+      abbrev pub m32 : (before : After-words2) → (given : s44 .gives (m31 (before .before) (before .words2 .given))) → Typed.Mo T48
+      m32 = λ before given. s44 .next (m31 (before .before) (before .words2 .given)) given
 
-      module _ (before· : After-f2) where
+      module _ (before· : After-words2) where
         pub record After-slice-known5·own : Type 0 where
-          pub given : s44 .gives (m31 (before· .before) (before· .f2 .given))
+          pub given : s44 .gives (m31 (before· .before) (before· .words2 .given))
 
       pub record After-slice-known5 : Type 0 where
-        pub before : After-f2
+        pub before : After-words2
         pub slice-known5 : After-slice-known5·own before
 
       abbrev pub m33 : (before : After-slice-known5) → (given : s47 .gives (m32 (before .before) (before .slice-known5 .given))) →
@@ -4433,22 +4432,22 @@ module _ (claims· : Claims) where
       m33 = λ before given. s47 .next (m32 (before .before) (before .slice-known5 .given)) given
 
       module _ (before· : After-slice-known5) where
-        pub record After-t2·own : Type 0 where
+        pub record After-terms2·own : Type 0 where
           pub given : s47 .gives (m32 (before· .before) (before· .slice-known5 .given))
 
-      pub record After-t2 : Type 0 where
+      pub record After-terms2 : Type 0 where
         pub before : After-slice-known5
-        pub t2 : After-t2·own before
+        pub terms2 : After-terms2·own before
 
-      abbrev pub m34 : (before : After-t2) → (given : s48 .gives (m33 (before .before) (before .t2 .given))) → Typed.Mo T52
-      m34 = λ before given. s48 .next (m33 (before .before) (before .t2 .given)) given
+      abbrev pub m34 : (before : After-terms2) → (given : s48 .gives (m33 (before .before) (before .terms2 .given))) → Typed.Mo T52
+      m34 = λ before given. s48 .next (m33 (before .before) (before .terms2 .given)) given
 
-      module _ (before· : After-t2) where
+      module _ (before· : After-terms2) where
         pub record After-slice-known6·own : Type 0 where
-          pub given : s48 .gives (m33 (before· .before) (before· .t2 .given))
+          pub given : s48 .gives (m33 (before· .before) (before· .terms2 .given))
 
       pub record After-slice-known6 : Type 0 where
-        pub before : After-t2
+        pub before : After-terms2
         pub slice-known6 : After-slice-known6·own before
 
       abbrev pub m35 : (before : After-slice-known6) → (given : s51 .gives (m34 (before .before) (before .slice-known6 .given))) →
@@ -4456,32 +4455,32 @@ module _ (claims· : Claims) where
       m35 = λ before given. s51 .next (m34 (before .before) (before .slice-known6 .given)) given
 
       module _ (before· : After-slice-known6) where
-        pub record After-w2·own : Type 0 where
+        pub record After-work2·own : Type 0 where
           pub given : s51 .gives (m34 (before· .before) (before· .slice-known6 .given))
 
-      pub record After-w2 : Type 0 where
+      pub record After-work2 : Type 0 where
         pub before : After-slice-known6
-        pub w2 : After-w2·own before
+        pub work2 : After-work2·own before
 
-      module _ (before· : After-w2) where
+      module _ (before· : After-work2) where
         pub record At-match2-keys1·own : Type 0 where
-          pub keys1 : Run.OneOf (0 ∷ []) (Declared.tagOf Answer.the-type (Row.get 27 (T55 .locals) (m35 (before· .before) (before· .w2
-              .given))))
+          pub keys1 : Run.OneOf (0 ∷ []) (Declared.tagOf Answer.the-type (Row.get 27 (T55 .locals) (m35 (before· .before) (before·
+              .work2 .given))))
 
       pub record At-match2-keys1 : Type 0 where
-        pub before : After-w2
+        pub before : After-work2
         pub match2 : At-match2-keys1·own before
 
       abbrev pub Need-enum-known-r : Type 0
-      Need-enum-known-r = (c : At-match2-keys1) → s53 .asks (m35 (c .before .before) (c .before .w2 .given))
+      Need-enum-known-r = (c : At-match2-keys1) → s53 .asks (m35 (c .before .before) (c .before .work2 .given))
 
-      abbrev pub m36 : (before : At-match2-keys1) → (given : s53 .gives (m35 (before .before .before) (before .before .w2 .given))) →
+      abbrev pub m36 : (before : At-match2-keys1) → (given : s53 .gives (m35 (before .before .before) (before .before .work2 .given))) →
           Typed.Mo T57
-      m36 = λ before given. s53 .next (m35 (before .before .before) (before .before .w2 .given)) given
+      m36 = λ before given. s53 .next (m35 (before .before .before) (before .before .work2 .given)) given
 
       module _ (before· : At-match2-keys1) where
         pub record After-r·own : Type 0 where
-          pub given : s53 .gives (m35 (before· .before .before) (before· .before .w2 .given))
+          pub given : s53 .gives (m35 (before· .before .before) (before· .before .work2 .given))
 
       pub record After-r : Type 0 where
         pub before : At-match2-keys1
@@ -4519,25 +4518,25 @@ module _ (claims· : Claims) where
         pub before : After-r
         pub known-told2 : After-known-told2·own before
 
-      module _ (before· : After-w2) where
+      module _ (before· : After-work2) where
         pub record At-match2-keys2·own : Type 0 where
-          pub keys2 : Run.OneOf (1 ∷ []) (Declared.tagOf Answer.the-type (Row.get 27 (T55 .locals) (m35 (before· .before) (before· .w2
-              .given))))
+          pub keys2 : Run.OneOf (1 ∷ []) (Declared.tagOf Answer.the-type (Row.get 27 (T55 .locals) (m35 (before· .before) (before·
+              .work2 .given))))
 
       pub record At-match2-keys2 : Type 0 where
-        pub before : After-w2
+        pub before : After-work2
         pub match2 : At-match2-keys2·own before
 
       abbrev pub Need-enum-known-s2 : Type 0
-      Need-enum-known-s2 = (c : At-match2-keys2) → s62 .asks (m35 (c .before .before) (c .before .w2 .given))
+      Need-enum-known-s2 = (c : At-match2-keys2) → s62 .asks (m35 (c .before .before) (c .before .work2 .given))
 
-      abbrev pub m45 : (before : At-match2-keys2) → (given : s62 .gives (m35 (before .before .before) (before .before .w2 .given))) →
+      abbrev pub m45 : (before : At-match2-keys2) → (given : s62 .gives (m35 (before .before .before) (before .before .work2 .given))) →
           Typed.Mo T66
-      m45 = λ before given. s62 .next (m35 (before .before .before) (before .before .w2 .given)) given
+      m45 = λ before given. s62 .next (m35 (before .before .before) (before .before .work2 .given)) given
 
       module _ (before· : At-match2-keys2) where
         pub record After-s2·own : Type 0 where
-          pub given : s62 .gives (m35 (before· .before .before) (before· .before .w2 .given))
+          pub given : s62 .gives (m35 (before· .before .before) (before· .before .work2 .given))
 
       pub record After-s2 : Type 0 where
         pub before : At-match2-keys2
@@ -4598,25 +4597,25 @@ module _ (claims· : Claims) where
           Typed.Mo T74
       m53 = λ before given. s70 (m52 before given)
 
-      module _ (before· : After-w2) where
+      module _ (before· : After-work2) where
         pub record At-match2-keys3·own : Type 0 where
-          pub keys3 : Run.OneOf (2 ∷ []) (Declared.tagOf Answer.the-type (Row.get 27 (T55 .locals) (m35 (before· .before) (before· .w2
-              .given))))
+          pub keys3 : Run.OneOf (2 ∷ []) (Declared.tagOf Answer.the-type (Row.get 27 (T55 .locals) (m35 (before· .before) (before·
+              .work2 .given))))
 
       pub record At-match2-keys3 : Type 0 where
-        pub before : After-w2
+        pub before : After-work2
         pub match2 : At-match2-keys3·own before
 
       abbrev pub Need-enum-known-n : Type 0
-      Need-enum-known-n = (c : At-match2-keys3) → s71 .asks (m35 (c .before .before) (c .before .w2 .given))
+      Need-enum-known-n = (c : At-match2-keys3) → s71 .asks (m35 (c .before .before) (c .before .work2 .given))
 
-      abbrev pub m54 : (before : At-match2-keys3) → (given : s71 .gives (m35 (before .before .before) (before .before .w2 .given))) →
+      abbrev pub m54 : (before : At-match2-keys3) → (given : s71 .gives (m35 (before .before .before) (before .before .work2 .given))) →
           Typed.Mo T75
-      m54 = λ before given. s71 .next (m35 (before .before .before) (before .before .w2 .given)) given
+      m54 = λ before given. s71 .next (m35 (before .before .before) (before .before .work2 .given)) given
 
       module _ (before· : At-match2-keys3) where
         pub record After-n·own : Type 0 where
-          pub given : s71 .gives (m35 (before· .before .before) (before· .before .w2 .given))
+          pub given : s71 .gives (m35 (before· .before .before) (before· .before .work2 .given))
 
       pub record After-n : Type 0 where
         pub before : At-match2-keys3
@@ -4684,25 +4683,25 @@ module _ (claims· : Claims) where
       abbrev pub m71 : (before : After-n) → (given : s72 .gives (m54 (before .before) (before .n .given))) → Typed.Mo T86
       m71 = λ before given. s82 (m70 before given)
 
-      module _ (before· : After-w) where
+      module _ (before· : After-work) where
         pub record At-match-keys2·own : Type 0 where
-          pub keys2 : Run.OneOf (1 ∷ []) (Declared.tagOf Answer.the-type (Row.get 19 (T25 .locals) (m15 (before· .before) (before· .w
+          pub keys2 : Run.OneOf (1 ∷ []) (Declared.tagOf Answer.the-type (Row.get 19 (T25 .locals) (m15 (before· .before) (before· .work
               .given))))
 
       pub record At-match-keys2 : Type 0 where
-        pub before : After-w
+        pub before : After-work
         pub match : At-match-keys2·own before
 
       abbrev pub Need-enum-known-s : Type 0
-      Need-enum-known-s = (c : At-match-keys2) → s83 .asks (m15 (c .before .before) (c .before .w .given))
+      Need-enum-known-s = (c : At-match-keys2) → s83 .asks (m15 (c .before .before) (c .before .work .given))
 
-      abbrev pub m72 : (before : At-match-keys2) → (given : s83 .gives (m15 (before .before .before) (before .before .w .given))) →
+      abbrev pub m72 : (before : At-match-keys2) → (given : s83 .gives (m15 (before .before .before) (before .before .work .given))) →
           Typed.Mo T87
-      m72 = λ before given. s83 .next (m15 (before .before .before) (before .before .w .given)) given
+      m72 = λ before given. s83 .next (m15 (before .before .before) (before .before .work .given)) given
 
       module _ (before· : At-match-keys2) where
         pub record After-s·own : Type 0 where
-          pub given : s83 .gives (m15 (before· .before .before) (before· .before .w .given))
+          pub given : s83 .gives (m15 (before· .before .before) (before· .before .work .given))
 
       pub record After-s : Type 0 where
         pub before : At-match-keys2
@@ -4769,25 +4768,25 @@ module _ (claims· : Claims) where
           Typed.Mo T97
       m82 = λ before given. s93 (m81 before given)
 
-      module _ (before· : After-w) where
+      module _ (before· : After-work) where
         pub record At-match-keys3·own : Type 0 where
-          pub keys3 : Run.OneOf (2 ∷ []) (Declared.tagOf Answer.the-type (Row.get 19 (T25 .locals) (m15 (before· .before) (before· .w
+          pub keys3 : Run.OneOf (2 ∷ []) (Declared.tagOf Answer.the-type (Row.get 19 (T25 .locals) (m15 (before· .before) (before· .work
               .given))))
 
       pub record At-match-keys3 : Type 0 where
-        pub before : After-w
+        pub before : After-work
         pub match : At-match-keys3·own before
 
       abbrev pub Need-enum-known-n-2 : Type 0
-      Need-enum-known-n-2 = (c : At-match-keys3) → s94 .asks (m15 (c .before .before) (c .before .w .given))
+      Need-enum-known-n-2 = (c : At-match-keys3) → s94 .asks (m15 (c .before .before) (c .before .work .given))
 
-      abbrev pub m83 : (before : At-match-keys3) → (given : s94 .gives (m15 (before .before .before) (before .before .w .given))) →
+      abbrev pub m83 : (before : At-match-keys3) → (given : s94 .gives (m15 (before .before .before) (before .before .work .given))) →
           Typed.Mo T98
-      m83 = λ before given. s94 .next (m15 (before .before .before) (before .before .w .given)) given
+      m83 = λ before given. s94 .next (m15 (before .before .before) (before .before .work .given)) given
 
       module _ (before· : At-match-keys3) where
         pub record After-n2·own : Type 0 where
-          pub given : s94 .gives (m15 (before· .before .before) (before· .before .w .given))
+          pub given : s94 .gives (m15 (before· .before .before) (before· .before .work .given))
 
       pub record After-n2 : Type 0 where
         pub before : At-match-keys3
@@ -5318,15 +5317,15 @@ module _ (claims· : Claims) where
                         before = record {
                           before = record {
                             before = record
-                                { before = record { before = c .before; second-premise = c .second-premise }; f2 = record { given = g } };
-                            slice-known5 =
-                                record { given = g' };
+                                { before = record { before = c .before; second-premise = c .second-premise }; words2 = record { given = g } };
+                            slice-known5
+                                = record { given = g' };
                           };
-                          t2 = record { given = g'' };
+                          terms2 = record { given = g'' };
                         };
                         slice-known6 = record { given = g'3 };
                       };
-                      w2 = record
+                      work2 = record
                           { given = g'4 };
                     };
                     match2 = record { keys1 = k };
@@ -5340,15 +5339,15 @@ module _ (claims· : Claims) where
                                 before = record {
                                   before = record {
                                     before = record
-                                        { before = record { before = c .before; second-premise = c .second-premise }; f2 = record { given = g } };
-                                    slice-known5 =
-                                        record { given = g' };
+                                        { before = record { before = c .before; second-premise = c .second-premise }; words2 = record { given = g } };
+                                    slice-known5
+                                        = record { given = g' };
                                   };
-                                  t2 = record { given = g'' };
+                                  terms2 = record { given = g'' };
                                 };
                                 slice-known6 = record { given = g'3 };
                               };
-                              w2 = record
+                              work2 = record
                                   { given = g'4 };
                             };
                         match2 = record { keys1 = k };
@@ -5366,15 +5365,15 @@ module _ (claims· : Claims) where
                           before = record {
                             before = record {
                               before = record
-                                  { before = record { before = c .before; second-premise = c .second-premise }; f2 = record { given = g } };
-                              slice-known5 =
-                                  record { given = g' };
+                                  { before = record { before = c .before; second-premise = c .second-premise }; words2 = record { given = g } };
+                              slice-known5
+                                  = record { given = g' };
                             };
-                            t2 = record { given = g'' };
+                            terms2 = record { given = g'' };
                           };
                           slice-known6 = record { given = g'3 };
                         };
-                        w2 = record
+                        work2 = record
                             { given = g'4 };
                       };
                       match2 = record { keys2 = k };
@@ -5389,15 +5388,15 @@ module _ (claims· : Claims) where
                                     before = record {
                                       before = record {
                                         before = record
-                                            { before = record { before = c .before; second-premise = c .second-premise }; f2 = record { given = g } };
-                                        slice-known5 =
-                                            record { given = g' };
+                                            { before = record { before = c .before; second-premise = c .second-premise }; words2 = record { given = g } };
+                                        slice-known5
+                                            = record { given = g' };
                                       };
-                                      t2 = record { given = g'' };
+                                      terms2 = record { given = g'' };
                                     };
                                     slice-known6 = record { given = g'3 };
                                   };
-                                  w2 = record
+                                  work2 = record
                                       { given = g'4 };
                                 };
                                 match2 = record { keys2 = k };
@@ -5416,15 +5415,15 @@ module _ (claims· : Claims) where
                                       before = record {
                                         before = record {
                                           before = record
-                                              { before = record { before = c .before; second-premise = c .second-premise }; f2 = record { given = g } };
-                                          slice-known5 =
-                                              record { given = g' };
+                                              { before = record { before = c .before; second-premise = c .second-premise }; words2 = record { given = g } };
+                                          slice-known5
+                                              = record { given = g' };
                                         };
-                                        t2 = record { given = g'' };
+                                        terms2 = record { given = g'' };
                                       };
                                       slice-known6 = record { given = g'3 };
                                     };
-                                    w2 = record
+                                    work2 = record
                                         { given = g'4 };
                                   };
                                   match2 = record { keys2 = k };
@@ -5441,15 +5440,15 @@ module _ (claims· : Claims) where
                                         before = record {
                                           before = record {
                                             before = record
-                                                { before = record { before = c .before; second-premise = c .second-premise }; f2 = record { given = g } };
-                                            slice-known5 =
-                                                record { given = g' };
+                                                { before = record { before = c .before; second-premise = c .second-premise }; words2 = record { given = g } };
+                                            slice-known5
+                                                = record { given = g' };
                                           };
-                                          t2 = record { given = g'' };
+                                          terms2 = record { given = g'' };
                                         };
                                         slice-known6 = record { given = g'3 };
                                       };
-                                      w2 = record
+                                      work2 = record
                                           { given = g'4 };
                                     };
                                     match2 = record { keys2 = k };
@@ -5467,15 +5466,15 @@ module _ (claims· : Claims) where
                             before = record {
                               before = record {
                                 before = record
-                                    { before = record { before = c .before; second-premise = c .second-premise }; f2 = record { given = g } };
-                                slice-known5 =
-                                    record { given = g' };
+                                    { before = record { before = c .before; second-premise = c .second-premise }; words2 = record { given = g } };
+                                slice-known5
+                                    = record { given = g' };
                               };
-                              t2 = record { given = g'' };
+                              terms2 = record { given = g'' };
                             };
                             slice-known6 = record { given = g'3 };
                           };
-                          w2 = record
+                          work2 = record
                               { given = g'4 };
                         };
                         match2 = record { keys3 = k };
@@ -5489,15 +5488,15 @@ module _ (claims· : Claims) where
                                     before = record {
                                       before = record {
                                         before = record
-                                            { before = record { before = c .before; second-premise = c .second-premise }; f2 = record { given = g } };
-                                        slice-known5 =
-                                            record { given = g' };
+                                            { before = record { before = c .before; second-premise = c .second-premise }; words2 = record { given = g } };
+                                        slice-known5
+                                            = record { given = g' };
                                       };
-                                      t2 = record { given = g'' };
+                                      terms2 = record { given = g'' };
                                     };
                                     slice-known6 = record { given = g'3 };
                                   };
-                                  w2 = record
+                                  work2 = record
                                       { given = g'4 };
                                 };
                             match2 = record { keys3 = k };
@@ -5513,23 +5512,23 @@ module _ (claims· : Claims) where
                           before = record {
                             before = record {
                               before = record
-                                  { before = record { before = c .before; second-premise = c .second-premise }; f2 = record { given = g } };
-                              slice-known5 =
-                                  record { given = g' };
+                                  { before = record { before = c .before; second-premise = c .second-premise }; words2 = record { given = g } };
+                              slice-known5
+                                  = record { given = g' };
                             };
-                            t2 = record { given = g'' };
+                            terms2 = record { given = g'' };
                           };
                           slice-known6 = record { given = g'3 };
-                        } g'4))) (Match.tag-small
-                        Answer.the-type (Row.get 27 (T55 .locals) (m35 record {
+                        } g'4)))
+                        (Match.tag-small Answer.the-type (Row.get 27 (T55 .locals) (m35 record {
                           before = record {
                             before = record {
                               before = record
-                                  { before = record { before = c .before; second-premise = c .second-premise }; f2 = record { given = g } };
-                              slice-known5 =
-                                  record { given = g' };
+                                  { before = record { before = c .before; second-premise = c .second-premise }; words2 = record { given = g } };
+                              slice-known5
+                                  = record { given = g' };
                             };
-                            t2 = record { given = g'' };
+                            terms2 = record { given = g'' };
                           };
                           slice-known6 = record { given = g'3 };
                         } g'4))),
@@ -5556,15 +5555,15 @@ module _ (claims· : Claims) where
                         before = record {
                           before = record {
                             before = record
-                                { before = record { before = c .before; first-premise = c .first-premise }; f = record { given = g } };
+                                { before = record { before = c .before; first-premise = c .first-premise }; words = record { given = g } };
                             slice-known3 =
                                 record { given = g' };
                           };
-                          t = record { given = g'' };
+                          terms = record { given = g'' };
                         };
                         slice-known4 = record { given = g'3 };
                       };
-                      w = record
+                      work = record
                           { given = g'4 };
                     };
                     match = record { keys1 = k };
@@ -5587,15 +5586,15 @@ module _ (claims· : Claims) where
                                           before = record {
                                             before = record {
                                               before = record
-                                                  { before = record { before = c .before; first-premise = c .first-premise }; f = record { given = g } };
+                                                  { before = record { before = c .before; first-premise = c .first-premise }; words = record { given = g } };
                                               slice-known3 =
                                                   record { given = g' };
                                             };
-                                            t = record { given = g'' };
+                                            terms = record { given = g'' };
                                           };
                                           slice-known4 = record { given = g'3 };
                                         };
-                                        w = record
+                                        work = record
                                             { given = g'4 };
                                       };
                                       match = record { keys1 = k };
@@ -5624,15 +5623,15 @@ module _ (claims· : Claims) where
                                                 before = record {
                                                   before = record {
                                                     before = record
-                                                        { before = record { before = c .before; first-premise = c .first-premise }; f = record { given = g } };
+                                                        { before = record { before = c .before; first-premise = c .first-premise }; words = record { given = g } };
                                                     slice-known3 =
                                                         record { given = g' };
                                                   };
-                                                  t = record { given = g'' };
+                                                  terms = record { given = g'' };
                                                 };
                                                 slice-known4 = record { given = g'3 };
                                               };
-                                              w = record
+                                              work = record
                                                   { given = g'4 };
                                             };
                                             match = record { keys1 = k };
@@ -5683,15 +5682,15 @@ module _ (claims· : Claims) where
                                                 before
                                                     = record {
                                                       before = record
-                                                          { before = record { before = c .before; first-premise = c .first-premise }; f = record { given = g } };
+                                                          { before = record { before = c .before; first-premise = c .first-premise }; words = record { given = g } };
                                                       slice-known3 =
                                                           record { given = g' };
                                                     };
-                                                t = record { given = g'' };
+                                                terms = record { given = g'' };
                                               };
                                               slice-known4 = record { given = g'3 };
                                             };
-                                            w = record
+                                            work = record
                                                 { given = g'4 };
                                           };
                                           match = record { keys1 = k };
@@ -5718,15 +5717,15 @@ module _ (claims· : Claims) where
                           before = record {
                             before = record {
                               before = record
-                                  { before = record { before = c .before; first-premise = c .first-premise }; f = record { given = g } };
+                                  { before = record { before = c .before; first-premise = c .first-premise }; words = record { given = g } };
                               slice-known3 =
                                   record { given = g' };
                             };
-                            t = record { given = g'' };
+                            terms = record { given = g'' };
                           };
                           slice-known4 = record { given = g'3 };
                         };
-                        w = record
+                        work = record
                             { given = g'4 };
                       };
                       match = record { keys2 = k };
@@ -5741,15 +5740,15 @@ module _ (claims· : Claims) where
                                     before = record {
                                       before = record {
                                         before = record
-                                            { before = record { before = c .before; first-premise = c .first-premise }; f = record { given = g } };
+                                            { before = record { before = c .before; first-premise = c .first-premise }; words = record { given = g } };
                                         slice-known3 =
                                             record { given = g' };
                                       };
-                                      t = record { given = g'' };
+                                      terms = record { given = g'' };
                                     };
                                     slice-known4 = record { given = g'3 };
                                   };
-                                  w = record
+                                  work = record
                                       { given = g'4 };
                                 };
                                 match = record { keys2 = k };
@@ -5769,15 +5768,15 @@ module _ (claims· : Claims) where
                                           record {
                                             before = record {
                                               before = record
-                                                  { before = record { before = c .before; first-premise = c .first-premise }; f = record { given = g } };
+                                                  { before = record { before = c .before; first-premise = c .first-premise }; words = record { given = g } };
                                               slice-known3 =
                                                   record { given = g' };
                                             };
-                                            t = record { given = g'' };
+                                            terms = record { given = g'' };
                                           };
                                       slice-known4 = record { given = g'3 };
                                     };
-                                    w = record
+                                    work = record
                                         { given = g'4 };
                                   };
                                   match = record { keys2 = k };
@@ -5794,15 +5793,15 @@ module _ (claims· : Claims) where
                                         before = record {
                                           before = record {
                                             before = record
-                                                { before = record { before = c .before; first-premise = c .first-premise }; f = record { given = g } };
+                                                { before = record { before = c .before; first-premise = c .first-premise }; words = record { given = g } };
                                             slice-known3 =
                                                 record { given = g' };
                                           };
-                                          t = record { given = g'' };
+                                          terms = record { given = g'' };
                                         };
                                         slice-known4 = record { given = g'3 };
                                       };
-                                      w = record
+                                      work = record
                                           { given = g'4 };
                                     };
                                     match = record { keys2 = k };
@@ -5821,15 +5820,15 @@ module _ (claims· : Claims) where
                                 before = record {
                                   before = record {
                                     before = record
-                                        { before = record { before = c .before; first-premise = c .first-premise }; f = record { given = g } };
+                                        { before = record { before = c .before; first-premise = c .first-premise }; words = record { given = g } };
                                     slice-known3 =
                                         record { given = g' };
                                   };
-                                  t = record { given = g'' };
+                                  terms = record { given = g'' };
                                 };
                                 slice-known4 = record { given = g'3 };
                               };
-                              w = record
+                              work = record
                                   { given = g'4 };
                             };
                             match = record { keys3 = k };
@@ -5843,15 +5842,15 @@ module _ (claims· : Claims) where
                                     before = record {
                                       before = record {
                                         before = record
-                                            { before = record { before = c .before; first-premise = c .first-premise }; f = record { given = g } };
+                                            { before = record { before = c .before; first-premise = c .first-premise }; words = record { given = g } };
                                         slice-known3 =
                                             record { given = g' };
                                       };
-                                      t = record { given = g'' };
+                                      terms = record { given = g'' };
                                     };
                                     slice-known4 = record { given = g'3 };
                                   };
-                                  w = record
+                                  work = record
                                       { given = g'4 };
                                 };
                             match = record { keys3 = k };
@@ -5867,11 +5866,11 @@ module _ (claims· : Claims) where
                           before = record {
                             before = record {
                               before = record
-                                  { before = record { before = c .before; first-premise = c .first-premise }; f = record { given = g } };
+                                  { before = record { before = c .before; first-premise = c .first-premise }; words = record { given = g } };
                               slice-known3 =
                                   record { given = g' };
                             };
-                            t = record { given = g'' };
+                            terms = record { given = g'' };
                           };
                           slice-known4 = record { given = g'3 };
                         } g'4))) (Match.tag-small
@@ -5879,11 +5878,11 @@ module _ (claims· : Claims) where
                           before = record {
                             before = record {
                               before = record
-                                  { before = record { before = c .before; first-premise = c .first-premise }; f = record { given = g } };
+                                  { before = record { before = c .before; first-premise = c .first-premise }; words = record { given = g } };
                               slice-known3 =
                                   record { given = g' };
                             };
-                            t = record { given = g'' };
+                            terms = record { given = g'' };
                           };
                           slice-known4 = record { given = g'3 };
                         } g'4))),
@@ -5980,26 +5979,26 @@ module _ (claims· : Claims) where
           asked = λ a good pre bs. laid record {
             κs = κs;
             args = record {
-              f = a .0;
-              t = a .1 .0;
-              w = a .1 .1 .0;
-              k = a .1 .1 .1 .0;
-              m =
-                  a .1 .1 .1 .1 .0;
-              st = a .1 .1 .1 .1 .1 .0;
-              q = a .1 .1 .1 .1 .1 .1 .0;
-              i = a .1 .1 .1 .1 .1 .1 .1 .0;
+              words = a .0;
+              terms = a .1 .0;
+              work = a .1 .1 .0;
+              names = a .1
+                  .1 .1 .0;
+              limits = a .1 .1 .1 .1 .0;
+              state = a .1 .1 .1 .1 .1 .0;
+              sequent = a .1 .1 .1 .1 .1 .1 .0;
+              i = a .1 .1 .1 .1 .1
+                  .1 .1 .0;
             };
             good = good;
-            fits
-                = record { i = record { fits = good .1 .1 .1 .1 .1 .1 .1 .0 .1 } };
+            fits = record { i = record { fits = good .1 .1 .1 .1 .1 .1 .1 .0 .1 } };
             pre = pre;
           }
 
         module _ {M : Type 1} (𝓤 : URA.URA M) (H : Wp.Heap 𝓤) (A : Atoms.Atoms 𝓤) (W : Kit.Given 𝓤 H A) (𝓣 : Wp.Tables 𝓤 H) (known0 :
             Plain.Known 𝓤 H A W 𝓣 4 ps·0 r·0 (claims· .0) (claims· .1) "prove::first_premise") (known1 : Plain.Known 𝓤 H A W 𝓣 4 ps·1
             r·1 (claims· .2) (claims· .3) "prove::second_premise") (known2 : Plain.Known 𝓤 H A W 𝓣 0 ps·2 r·2 (claims· .4) (claims· .5)
-            "context::give_back") where
+            "meter::give_back") where
           pub spec : Statement.Triple 𝓤 (Wp.WpFn 𝓤 H (𝓣 .C) (𝓣 .Λ) (Function.fnOf 4 ps r xs m hs body)) (Function.plainOf 𝓤 H A 4 ps r
               Pre· Post·)
           spec = Plain.t-fn-plain 𝓤 H A W 𝓣 4 ps r xs m hs body (λ κs qs bs. Φ) (λ κs qs bs bd. typed κs qs 𝓤 H A W 𝓣

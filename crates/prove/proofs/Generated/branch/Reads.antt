@@ -40,55 +40,59 @@ module _ (κs : Lifetimes.Lfts 4) where
       (Kinds'.endedOf 4 Kinds.ps Kinds.r) κs) → (w : World.World) → World.Pr w
   ensures = λ a g r s w. branch.clauses (w .𝓤) (w .H) (w .𝓖 .A) (w .𝓜 .mem) (w .𝓡 .run) κs a .ensures g r s
 
-  abbrev pub requires-1·read : (a : World.ArgsD branch.signature κs) → (g : Ghost) → Read.Read (World.In branch.signature κs a)
-      Read.no-know λ w. branch.requires-1 (w .𝓤) (w .H) κs (w .𝓖 .A) (w .𝓜 .mem) (w .𝓡 .run) (a .0) (a .1 .0) (a .1 .1 .0) (a .1 .1 .1
-      .0) (a .1 .1 .1 .1 .0) (a .1 .1 .1 .1 .1 .0) (a .1 .1 .1 .1 .1 .1 .0) (a .1 .1 .1 .1 .1 .1 .1 .0) (a .1 .1 .1 .1 .1 .1 .1 .1 .0)
-  requires-1·read = λ a g. Read.all-models (λ w. branch.requires-1 (w .𝓤) (w .H) κs (w .𝓖 .A) (w .𝓜 .mem) (w .𝓡 .run) (a .0) (a .1 .0)
-      (a .1 .1 .0) (a .1 .1 .1 .0) (a .1 .1 .1 .1 .0) (a .1 .1 .1 .1 .1 .0) (a .1 .1 .1 .1 .1 .1 .0) (a .1 .1 .1 .1 .1 .1 .1 .0) (a .1
-      .1 .1 .1 .1 .1 .1 .1 .0)) (λ w. Read.r-last _) (λ w. Path'.refl) (λ w. Path'.refl) λ w. Path'.refl
+  abbrev pub requires-represented·read : (a : World.ArgsD branch.signature κs) → (g : Ghost) → Read.Read (World.In branch.signature κs
+      a) Read.no-know λ w. branch.requires-represented (w .𝓤) (w .H) κs (w .𝓖 .A) (w .𝓜 .mem) (w .𝓡 .run) (a .0) (a .1 .0) (a .1 .1 .0)
+      (a .1 .1 .1 .0) (a .1 .1 .1 .1 .0) (a .1 .1 .1 .1 .1 .0) (a .1 .1 .1 .1 .1 .1 .0) (a .1 .1 .1 .1 .1 .1 .1 .0) (a .1 .1 .1 .1 .1 .1
+      .1 .1 .0)
+  requires-represented·read = λ a g. Read.all-models (λ w. branch.requires-represented (w .𝓤) (w .H) κs (w .𝓖 .A) (w .𝓜 .mem) (w .𝓡
+      .run) (a .0) (a .1 .0) (a .1 .1 .0) (a .1 .1 .1 .0) (a .1 .1 .1 .1 .0) (a .1 .1 .1 .1 .1 .0) (a .1 .1 .1 .1 .1 .1 .0) (a .1 .1 .1
+      .1 .1 .1 .1 .0) (a .1 .1 .1 .1 .1 .1 .1 .1 .0)) (λ w. Read.r-last _) (λ w. Path'.refl) (λ w. Path'.refl) λ w. Path'.refl
 
-  abbrev pub requires-2·read : (a : World.ArgsD branch.signature κs) → (g : Ghost) → Read.Read (World.In branch.signature κs a)
-      Read.no-know λ w. branch.requires-2 (w .𝓤) (w .H) κs (w .𝓖 .A) (w .𝓜 .mem) (w .𝓡 .run) (a .0) (a .1 .0) (a .1 .1 .0) (a .1 .1 .1
+  abbrev pub requires-few·read : (a : World.ArgsD branch.signature κs) → (g : Ghost) → Read.Read (World.In branch.signature κs a)
+      Read.no-know λ w. branch.requires-few (w .𝓤) (w .H) κs (w .𝓖 .A) (w .𝓜 .mem) (w .𝓡 .run) (a .0) (a .1 .0) (a .1 .1 .0) (a .1 .1 .1
       .0) (a .1 .1 .1 .1 .0) (a .1 .1 .1 .1 .1 .0) (a .1 .1 .1 .1 .1 .1 .0) (a .1 .1 .1 .1 .1 .1 .1 .0) (a .1 .1 .1 .1 .1 .1 .1 .1 .0)
-  requires-2·read = λ a g. Read.all-models (λ w. branch.requires-2 (w .𝓤) (w .H) κs (w .𝓖 .A) (w .𝓜 .mem) (w .𝓡 .run) (a .0) (a .1 .0)
-      (a .1 .1 .0) (a .1 .1 .1 .0) (a .1 .1 .1 .1 .0) (a .1 .1 .1 .1 .1 .0) (a .1 .1 .1 .1 .1 .1 .0) (a .1 .1 .1 .1 .1 .1 .1 .0) (a .1
-      .1 .1 .1 .1 .1 .1 .1 .0)) (λ w. Read.r-last _) (λ w. Path'.refl) (λ w. Path'.refl) λ w. Path'.refl
+  requires-few·read = λ a g. Read.all-models (λ w. branch.requires-few (w .𝓤) (w .H) κs (w .𝓖 .A) (w .𝓜 .mem) (w .𝓡 .run) (a .0) (a .1
+      .0) (a .1 .1 .0) (a .1 .1 .1 .0) (a .1 .1 .1 .1 .0) (a .1 .1 .1 .1 .1 .0) (a .1 .1 .1 .1 .1 .1 .0) (a .1 .1 .1 .1 .1 .1 .1 .0) (a
+      .1 .1 .1 .1 .1 .1 .1 .1 .0)) (λ w. Read.r-last _) (λ w. Path'.refl) (λ w. Path'.refl) λ w. Path'.refl
 
-  abbrev pub requires-3·read : (a : World.ArgsD branch.signature κs) → (g : Ghost) → Read.Read (World.In branch.signature κs a)
-      Read.no-know λ w. branch.requires-3 (w .𝓤) (w .H) κs (w .𝓖 .A) (w .𝓜 .mem) (w .𝓡 .run) (a .0) (a .1 .0) (a .1 .1 .0) (a .1 .1 .1
-      .0) (a .1 .1 .1 .1 .0) (a .1 .1 .1 .1 .1 .0) (a .1 .1 .1 .1 .1 .1 .0) (a .1 .1 .1 .1 .1 .1 .1 .0) (a .1 .1 .1 .1 .1 .1 .1 .1 .0)
-  requires-3·read = λ a g. Read.all-models (λ w. branch.requires-3 (w .𝓤) (w .H) κs (w .𝓖 .A) (w .𝓜 .mem) (w .𝓡 .run) (a .0) (a .1 .0)
-      (a .1 .1 .0) (a .1 .1 .1 .0) (a .1 .1 .1 .1 .0) (a .1 .1 .1 .1 .1 .0) (a .1 .1 .1 .1 .1 .1 .0) (a .1 .1 .1 .1 .1 .1 .1 .0) (a .1
-      .1 .1 .1 .1 .1 .1 .1 .0)) (λ w. Read.r-last _) (λ w. Path'.refl) (λ w. Path'.refl) λ w. Path'.refl
+  abbrev pub requires-half·read : (a : World.ArgsD branch.signature κs) → (g : Ghost) → Read.Read (World.In branch.signature κs a)
+      Read.no-know λ w. branch.requires-half (w .𝓤) (w .H) κs (w .𝓖 .A) (w .𝓜 .mem) (w .𝓡 .run) (a .0) (a .1 .0) (a .1 .1 .0) (a .1 .1
+      .1 .0) (a .1 .1 .1 .1 .0) (a .1 .1 .1 .1 .1 .0) (a .1 .1 .1 .1 .1 .1 .0) (a .1 .1 .1 .1 .1 .1 .1 .0) (a .1 .1 .1 .1 .1 .1 .1 .1
+      .0)
+  requires-half·read = λ a g. Read.all-models (λ w. branch.requires-half (w .𝓤) (w .H) κs (w .𝓖 .A) (w .𝓜 .mem) (w .𝓡 .run) (a .0) (a .1
+      .0) (a .1 .1 .0) (a .1 .1 .1 .0) (a .1 .1 .1 .1 .0) (a .1 .1 .1 .1 .1 .0) (a .1 .1 .1 .1 .1 .1 .0) (a .1 .1 .1 .1 .1 .1 .1 .0) (a
+      .1 .1 .1 .1 .1 .1 .1 .1 .0)) (λ w. Read.r-last _) (λ w. Path'.refl) (λ w. Path'.refl) λ w. Path'.refl
 
-  abbrev pub requires-4·read : (a : World.ArgsD branch.signature κs) → (g : Ghost) → Read.Read (World.In branch.signature κs a)
-      Read.no-know λ w. branch.requires-4 (w .𝓤) (w .H) κs (w .𝓖 .A) (w .𝓜 .mem) (w .𝓡 .run) (a .0) (a .1 .0) (a .1 .1 .0) (a .1 .1 .1
-      .0) (a .1 .1 .1 .1 .0) (a .1 .1 .1 .1 .1 .0) (a .1 .1 .1 .1 .1 .1 .0) (a .1 .1 .1 .1 .1 .1 .1 .0) (a .1 .1 .1 .1 .1 .1 .1 .1 .0)
-  requires-4·read = λ a g. Read.all-models (λ w. branch.requires-4 (w .𝓤) (w .H) κs (w .𝓖 .A) (w .𝓜 .mem) (w .𝓡 .run) (a .0) (a .1 .0)
-      (a .1 .1 .0) (a .1 .1 .1 .0) (a .1 .1 .1 .1 .0) (a .1 .1 .1 .1 .1 .0) (a .1 .1 .1 .1 .1 .1 .0) (a .1 .1 .1 .1 .1 .1 .1 .0) (a .1
-      .1 .1 .1 .1 .1 .1 .1 .0)) (λ w. Read.r-last _) (λ w. Path'.refl) (λ w. Path'.refl) λ w. Path'.refl
+  abbrev pub requires-fresh·read : (a : World.ArgsD branch.signature κs) → (g : Ghost) → Read.Read (World.In branch.signature κs a)
+      Read.no-know λ w. branch.requires-fresh (w .𝓤) (w .H) κs (w .𝓖 .A) (w .𝓜 .mem) (w .𝓡 .run) (a .0) (a .1 .0) (a .1 .1 .0) (a .1 .1
+      .1 .0) (a .1 .1 .1 .1 .0) (a .1 .1 .1 .1 .1 .0) (a .1 .1 .1 .1 .1 .1 .0) (a .1 .1 .1 .1 .1 .1 .1 .0) (a .1 .1 .1 .1 .1 .1 .1 .1
+      .0)
+  requires-fresh·read = λ a g. Read.all-models (λ w. branch.requires-fresh (w .𝓤) (w .H) κs (w .𝓖 .A) (w .𝓜 .mem) (w .𝓡 .run) (a .0) (a
+      .1 .0) (a .1 .1 .0) (a .1 .1 .1 .0) (a .1 .1 .1 .1 .0) (a .1 .1 .1 .1 .1 .0) (a .1 .1 .1 .1 .1 .1 .0) (a .1 .1 .1 .1 .1 .1 .1 .0)
+      (a .1 .1 .1 .1 .1 .1 .1 .1 .0)) (λ w. Read.r-last _) (λ w. Path'.refl) (λ w. Path'.refl) λ w. Path'.refl
 
   abbrev pub pre-read : (a : World.ArgsD branch.signature κs) → (g : Ghost) → Read.Read (World.In branch.signature κs a) Read.no-know
       (requires a g)
-  pre-read = λ a g. Read.read-join (λ w. branch.requires-1 (w .𝓤) (w .H) κs (w .𝓖 .A) (w .𝓜 .mem) (w .𝓡 .run) (a .0) (a .1 .0) (a .1 .1
-      .0) (a .1 .1 .1 .0) (a .1 .1 .1 .1 .0) (a .1 .1 .1 .1 .1 .0) (a .1 .1 .1 .1 .1 .1 .0) (a .1 .1 .1 .1 .1 .1 .1 .0) (a .1 .1 .1 .1
-      .1 .1 .1 .1 .0)) (λ w. Logic.sep (w .𝓤) (branch.requires-2 (w .𝓤) (w .H) κs (w .𝓖 .A) (w .𝓜 .mem) (w .𝓡 .run) (a .0) (a .1 .0) (a
-      .1 .1 .0) (a .1 .1 .1 .0) (a .1 .1 .1 .1 .0) (a .1 .1 .1 .1 .1 .0) (a .1 .1 .1 .1 .1 .1 .0) (a .1 .1 .1 .1 .1 .1 .1 .0) (a .1 .1
-      .1 .1 .1 .1 .1 .1 .0)) (Logic.sep (w .𝓤) (branch.requires-3 (w .𝓤) (w .H) κs (w .𝓖 .A) (w .𝓜 .mem) (w .𝓡 .run) (a .0) (a .1 .0) (a
-      .1 .1 .0) (a .1 .1 .1 .0) (a .1 .1 .1 .1 .0) (a .1 .1 .1 .1 .1 .0) (a .1 .1 .1 .1 .1 .1 .0) (a .1 .1 .1 .1 .1 .1 .1 .0) (a .1 .1
-      .1 .1 .1 .1 .1 .1 .0)) (branch.requires-4 (w .𝓤) (w .H) κs (w .𝓖 .A) (w .𝓜 .mem) (w .𝓡 .run) (a .0) (a .1 .0) (a .1 .1 .0) (a .1
-      .1 .1 .0) (a .1 .1 .1 .1 .0) (a .1 .1 .1 .1 .1 .0) (a .1 .1 .1 .1 .1 .1 .0) (a .1 .1 .1 .1 .1 .1 .1 .0) (a .1 .1 .1 .1 .1 .1 .1 .1
-      .0)))) (requires-1·read a g) (Read.read-join (λ w. branch.requires-2 (w .𝓤) (w .H) κs (w .𝓖 .A) (w .𝓜 .mem) (w .𝓡 .run) (a .0) (a
+  pre-read = λ a g. Read.read-join (λ w. branch.requires-represented (w .𝓤) (w .H) κs (w .𝓖 .A) (w .𝓜 .mem) (w .𝓡 .run) (a .0) (a .1 .0)
+      (a .1 .1 .0) (a .1 .1 .1 .0) (a .1 .1 .1 .1 .0) (a .1 .1 .1 .1 .1 .0) (a .1 .1 .1 .1 .1 .1 .0) (a .1 .1 .1 .1 .1 .1 .1 .0) (a .1
+      .1 .1 .1 .1 .1 .1 .1 .0)) (λ w. Logic.sep (w .𝓤) (branch.requires-few (w .𝓤) (w .H) κs (w .𝓖 .A) (w .𝓜 .mem) (w .𝓡 .run) (a .0) (a
       .1 .0) (a .1 .1 .0) (a .1 .1 .1 .0) (a .1 .1 .1 .1 .0) (a .1 .1 .1 .1 .1 .0) (a .1 .1 .1 .1 .1 .1 .0) (a .1 .1 .1 .1 .1 .1 .1 .0)
-      (a .1 .1 .1 .1 .1 .1 .1 .1 .0)) (λ w. Logic.sep (w .𝓤) (branch.requires-3 (w .𝓤) (w .H) κs (w .𝓖 .A) (w .𝓜 .mem) (w .𝓡 .run) (a
-      .0) (a .1 .0) (a .1 .1 .0) (a .1 .1 .1 .0) (a .1 .1 .1 .1 .0) (a .1 .1 .1 .1 .1 .0) (a .1 .1 .1 .1 .1 .1 .0) (a .1 .1 .1 .1 .1 .1
-      .1 .0) (a .1 .1 .1 .1 .1 .1 .1 .1 .0)) (branch.requires-4 (w .𝓤) (w .H) κs (w .𝓖 .A) (w .𝓜 .mem) (w .𝓡 .run) (a .0) (a .1 .0) (a
-      .1 .1 .0) (a .1 .1 .1 .0) (a .1 .1 .1 .1 .0) (a .1 .1 .1 .1 .1 .0) (a .1 .1 .1 .1 .1 .1 .0) (a .1 .1 .1 .1 .1 .1 .1 .0) (a .1 .1
-      .1 .1 .1 .1 .1 .1 .0))) (requires-2·read a g) (Read.read-join (λ w. branch.requires-3 (w .𝓤) (w .H) κs (w .𝓖 .A) (w .𝓜 .mem) (w .𝓡
-      .run) (a .0) (a .1 .0) (a .1 .1 .0) (a .1 .1 .1 .0) (a .1 .1 .1 .1 .0) (a .1 .1 .1 .1 .1 .0) (a .1 .1 .1 .1 .1 .1 .0) (a .1 .1 .1
-      .1 .1 .1 .1 .0) (a .1 .1 .1 .1 .1 .1 .1 .1 .0)) (λ w. branch.requires-4 (w .𝓤) (w .H) κs (w .𝓖 .A) (w .𝓜 .mem) (w .𝓡 .run) (a .0)
+      (a .1 .1 .1 .1 .1 .1 .1 .1 .0)) (Logic.sep (w .𝓤) (branch.requires-half (w .𝓤) (w .H) κs (w .𝓖 .A) (w .𝓜 .mem) (w .𝓡 .run) (a .0)
       (a .1 .0) (a .1 .1 .0) (a .1 .1 .1 .0) (a .1 .1 .1 .1 .0) (a .1 .1 .1 .1 .1 .0) (a .1 .1 .1 .1 .1 .1 .0) (a .1 .1 .1 .1 .1 .1 .1
-      .0) (a .1 .1 .1 .1 .1 .1 .1 .1 .0)) (requires-3·read a g) (requires-4·read a g)))
+      .0) (a .1 .1 .1 .1 .1 .1 .1 .1 .0)) (branch.requires-fresh (w .𝓤) (w .H) κs (w .𝓖 .A) (w .𝓜 .mem) (w .𝓡 .run) (a .0) (a .1 .0) (a
+      .1 .1 .0) (a .1 .1 .1 .0) (a .1 .1 .1 .1 .0) (a .1 .1 .1 .1 .1 .0) (a .1 .1 .1 .1 .1 .1 .0) (a .1 .1 .1 .1 .1 .1 .1 .0) (a .1 .1
+      .1 .1 .1 .1 .1 .1 .0)))) (requires-represented·read a g) (Read.read-join (λ w. branch.requires-few (w .𝓤) (w .H) κs (w .𝓖 .A) (w
+      .𝓜 .mem) (w .𝓡 .run) (a .0) (a .1 .0) (a .1 .1 .0) (a .1 .1 .1 .0) (a .1 .1 .1 .1 .0) (a .1 .1 .1 .1 .1 .0) (a .1 .1 .1 .1 .1 .1
+      .0) (a .1 .1 .1 .1 .1 .1 .1 .0) (a .1 .1 .1 .1 .1 .1 .1 .1 .0)) (λ w. Logic.sep (w .𝓤) (branch.requires-half (w .𝓤) (w .H) κs (w
+      .𝓖 .A) (w .𝓜 .mem) (w .𝓡 .run) (a .0) (a .1 .0) (a .1 .1 .0) (a .1 .1 .1 .0) (a .1 .1 .1 .1 .0) (a .1 .1 .1 .1 .1 .0) (a .1 .1 .1
+      .1 .1 .1 .0) (a .1 .1 .1 .1 .1 .1 .1 .0) (a .1 .1 .1 .1 .1 .1 .1 .1 .0)) (branch.requires-fresh (w .𝓤) (w .H) κs (w .𝓖 .A) (w .𝓜
+      .mem) (w .𝓡 .run) (a .0) (a .1 .0) (a .1 .1 .0) (a .1 .1 .1 .0) (a .1 .1 .1 .1 .0) (a .1 .1 .1 .1 .1 .0) (a .1 .1 .1 .1 .1 .1 .0)
+      (a .1 .1 .1 .1 .1 .1 .1 .0) (a .1 .1 .1 .1 .1 .1 .1 .1 .0))) (requires-few·read a g) (Read.read-join (λ w. branch.requires-half (w
+      .𝓤) (w .H) κs (w .𝓖 .A) (w .𝓜 .mem) (w .𝓡 .run) (a .0) (a .1 .0) (a .1 .1 .0) (a .1 .1 .1 .0) (a .1 .1 .1 .1 .0) (a .1 .1 .1 .1 .1
+      .0) (a .1 .1 .1 .1 .1 .1 .0) (a .1 .1 .1 .1 .1 .1 .1 .0) (a .1 .1 .1 .1 .1 .1 .1 .1 .0)) (λ w. branch.requires-fresh (w .𝓤) (w .H)
+      κs (w .𝓖 .A) (w .𝓜 .mem) (w .𝓡 .run) (a .0) (a .1 .0) (a .1 .1 .0) (a .1 .1 .1 .0) (a .1 .1 .1 .1 .0) (a .1 .1 .1 .1 .1 .0) (a .1
+      .1 .1 .1 .1 .1 .0) (a .1 .1 .1 .1 .1 .1 .1 .0) (a .1 .1 .1 .1 .1 .1 .1 .1 .0)) (requires-half·read a g) (requires-fresh·read a
+      g)))
 
   abbrev pub ensures-1·read : (a : World.ArgsD branch.signature κs) → (g : Ghost) → (r : World.ResD branch.signature κs) → (s :
       Clauses.AtExit (Kinds'.endedOf 4 Kinds.ps Kinds.r) κs) → Read.Read (Base a) (Owned r s) λ w. branch.ensures-1 (w .𝓤) (w .H) κs (w

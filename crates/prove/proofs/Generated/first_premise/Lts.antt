@@ -1,16 +1,16 @@
 -- Made by tools/records.py from the sources; antt refuses it where it is stale. Assumes nothing.
 use Prim.Native.Nat
-use Rattle.context.proofs.Answer
-use Rattle.context.proofs.Answer.Laws
 use Rattle.context.proofs.Element
-use Rattle.context.proofs.Limits
-use Rattle.context.proofs.Limits.Laws as Laws'
-use Rattle.context.proofs.Sequent
-use Rattle.context.proofs.Sequent.Laws as Laws''
-use Rattle.context.proofs.State
-use Rattle.context.proofs.State.Laws as Laws'3
-use Rattle.premises.proofs.Ready
-use Rattle.premises.proofs.Ready.Laws as Laws'4
+use Rattle.meter.proofs.Answer
+use Rattle.meter.proofs.Answer.Laws
+use Rattle.meter.proofs.Limits
+use Rattle.meter.proofs.Limits.Laws as Laws'
+use Rattle.meter.proofs.Sequent
+use Rattle.meter.proofs.Sequent.Laws as Laws''
+use Rattle.meter.proofs.State
+use Rattle.meter.proofs.State.Laws as Laws'3
+use Rattle.search_premises.proofs.Ready
+use Rattle.search_premises.proofs.Ready.Laws as Laws'4
 use borrow.Author.Called
 use borrow.Enum.Known
 use borrow.Enum.Make
@@ -76,16 +76,17 @@ abbrev y0 : Syntax.Ty
 y0 = Syntax.tyInt Syntax.w64
 
 abbrev y1 : Syntax.Ty
-y1 = Syntax.tyStruct (99 ∷ 111 ∷ 110 ∷ 116 ∷ 101 ∷ 120 ∷ 116 ∷ 58 ∷ 58 ∷ 83 ∷ 116 ∷ 97 ∷ 116 ∷ 101 ∷ []) (Syntax.tcons y0 (Syntax.tcons
-    y0 (Syntax.tcons y0 (Syntax.tcons y0 Syntax.tnil))))
+y1 = Syntax.tyStruct (109 ∷ 101 ∷ 116 ∷ 101 ∷ 114 ∷ 58 ∷ 58 ∷ 83 ∷ 116 ∷ 97 ∷ 116 ∷ 101 ∷ []) (Syntax.tcons y0 (Syntax.tcons y0
+    (Syntax.tcons y0 (Syntax.tcons y0 Syntax.tnil))))
 
 abbrev y2 : Syntax.Ty
-y2 = Syntax.tyStruct (99 ∷ 111 ∷ 110 ∷ 116 ∷ 101 ∷ 120 ∷ 116 ∷ 58 ∷ 58 ∷ 83 ∷ 101 ∷ 113 ∷ 117 ∷ 101 ∷ 110 ∷ 116 ∷ []) (Syntax.tcons y0
+y2 = Syntax.tyStruct (109 ∷ 101 ∷ 116 ∷ 101 ∷ 114 ∷ 58 ∷ 58 ∷ 83 ∷ 101 ∷ 113 ∷ 117 ∷ 101 ∷ 110 ∷ 116 ∷ []) (Syntax.tcons y0
     (Syntax.tcons y0 (Syntax.tcons y0 (Syntax.tcons y0 Syntax.tnil))))
 
 abbrev y3 : Syntax.Ty
-y3 = Syntax.tyEnum (112 ∷ 114 ∷ 101 ∷ 109 ∷ 105 ∷ 115 ∷ 101 ∷ 115 ∷ 58 ∷ 58 ∷ 82 ∷ 101 ∷ 97 ∷ 100 ∷ 121 ∷ []) (Syntax.ttcons
-    (Syntax.tcons y1 (Syntax.tcons y2 Syntax.tnil)) (Syntax.ttcons (Syntax.tcons y0 Syntax.tnil) Syntax.ttnil))
+y3 = Syntax.tyEnum (115 ∷ 101 ∷ 97 ∷ 114 ∷ 99 ∷ 104 ∷ 95 ∷ 112 ∷ 114 ∷ 101 ∷ 109 ∷ 105 ∷ 115 ∷ 101 ∷ 115 ∷ 58 ∷ 58 ∷ 82 ∷ 101 ∷ 97 ∷ 100
+    ∷ 121 ∷ []) (Syntax.ttcons (Syntax.tcons y1 (Syntax.tcons y2 Syntax.tnil)) (Syntax.ttcons (Syntax.tcons y0 Syntax.tnil)
+    Syntax.ttnil))
 
 abbrev y4 : Syntax.Ty
 y4 = Syntax.tyInt Syntax.w32
@@ -112,9 +113,9 @@ abbrev y11 : Syntax.Ty
 y11 = Syntax.tyStruct (38 ∷ 91 ∷ 93 ∷ []) (Syntax.tcons y10 (Syntax.tcons y0 Syntax.tnil))
 
 abbrev y12 : Syntax.Ty
-y12 = Syntax.tyEnum (99 ∷ 111 ∷ 110 ∷ 116 ∷ 101 ∷ 120 ∷ 116 ∷ 58 ∷ 58 ∷ 65 ∷ 110 ∷ 115 ∷ 119 ∷ 101 ∷ 114 ∷ []) (Syntax.ttcons
-    (Syntax.tcons y0 (Syntax.tcons y1 Syntax.tnil)) (Syntax.ttcons (Syntax.tcons y1 Syntax.tnil) (Syntax.ttcons (Syntax.tcons y0
-    (Syntax.tcons y1 Syntax.tnil)) Syntax.ttnil)))
+y12 = Syntax.tyEnum (109 ∷ 101 ∷ 116 ∷ 101 ∷ 114 ∷ 58 ∷ 58 ∷ 65 ∷ 110 ∷ 115 ∷ 119 ∷ 101 ∷ 114 ∷ []) (Syntax.ttcons (Syntax.tcons y0
+    (Syntax.tcons y1 Syntax.tnil)) (Syntax.ttcons (Syntax.tcons y1 Syntax.tnil) (Syntax.ttcons (Syntax.tcons y0 (Syntax.tcons y1
+    Syntax.tnil)) Syntax.ttnil)))
 
 abbrev y13 : Row.Entry
 y13 = (0, Rows.any-gone y12)
@@ -219,8 +220,8 @@ abbrev y46 : Row.Entry
 y46 = (0, Rows.whole (Declared.row Answer.the-type))
 
 abbrev y47 : Syntax.Ty
-y47 = Syntax.tyStruct (99 ∷ 111 ∷ 110 ∷ 116 ∷ 101 ∷ 120 ∷ 116 ∷ 58 ∷ 58 ∷ 76 ∷ 105 ∷ 109 ∷ 105 ∷ 116 ∷ 115 ∷ []) (Syntax.tcons y0
-    (Syntax.tcons y0 (Syntax.tcons y0 (Syntax.tcons y0 Syntax.tnil))))
+y47 = Syntax.tyStruct (109 ∷ 101 ∷ 116 ∷ 101 ∷ 114 ∷ 58 ∷ 58 ∷ 76 ∷ 105 ∷ 109 ∷ 105 ∷ 116 ∷ 115 ∷ []) (Syntax.tcons y0 (Syntax.tcons y0
+    (Syntax.tcons y0 (Syntax.tcons y0 Syntax.tnil))))
 
 abbrev y48 : Row.Entry
 y48 = (5, Rows.any-gone y47)
@@ -608,9 +609,10 @@ b8 = Syntax.assign (Syntax.place 21 []) (Syntax.aggregate ((Syntax.copy (Syntax.
     ((Syntax.field 1) ∷ []))) ∷ []))
 
 abbrev b9 : Syntax.Body
-b9 = Syntax.call "premises::first" ((Syntax.copy (Syntax.place 17 [])) ∷ (Syntax.copy (Syntax.place 19 [])) ∷ (Syntax.copy (Syntax.place
-    21 [])) ∷ (Syntax.copy (Syntax.place 5 [])) ∷ (Syntax.copy (Syntax.place 6 [])) ∷ (Syntax.copy (Syntax.place 7 [])) ∷ (Syntax.copy
-    (Syntax.place 8 [])) ∷ (Syntax.copy (Syntax.place 9 [])) ∷ (Syntax.copy (Syntax.place 10 [])) ∷ []) (Syntax.place 15 [])
+b9 = Syntax.call "search_premises::first" ((Syntax.copy (Syntax.place 17 [])) ∷ (Syntax.copy (Syntax.place 19 [])) ∷ (Syntax.copy
+    (Syntax.place 21 [])) ∷ (Syntax.copy (Syntax.place 5 [])) ∷ (Syntax.copy (Syntax.place 6 [])) ∷ (Syntax.copy (Syntax.place 7 [])) ∷
+    (Syntax.copy (Syntax.place 8 [])) ∷ (Syntax.copy (Syntax.place 9 [])) ∷ (Syntax.copy (Syntax.place 10 [])) ∷ []) (Syntax.place 15
+    [])
 
 abbrev b10 : Syntax.Body
 b10 = Syntax.assign (Syntax.place 11 []) (Syntax.rvOpd (Syntax.copy (Syntax.place 15 ((Syntax.variant 1) ∷ (Syntax.field 1) ∷ []))))
@@ -1310,8 +1312,9 @@ module _ (claims· : Claims) where
       abbrev pub Closed : Type 2
       Closed = (𝓤 : URA.URA M) (H : Wp.Heap 𝓤) (A : Atoms.Atoms 𝓤) (W : Kit.Given 𝓤 H A) (𝓣 : Wp.Tables 𝓤 H) (known0 : Plain.Known 𝓤 H A
           W 𝓣 1 ps·0 r·0 (claims· .0) (claims· .1) "identifier_generator::fresh") (known1 : Plain.Known 𝓤 H A W 𝓣 3 ps·1 r·1 (claims·
-          .2) (claims· .3) "premises::first") (known2 : Plain.Known 𝓤 H A W 𝓣 4 ps·2 r·2 (claims· .4) (claims· .5) "prove::right") →
-          Statement.Triple 𝓤 (Wp.WpFn 𝓤 H (𝓣 .C) (𝓣 .Λ) (Function.fnOf 4 ps r xs m hs body)) (Function.plainOf 𝓤 H A 4 ps r Pre· Post·)
+          .2) (claims· .3) "search_premises::first") (known2 : Plain.Known 𝓤 H A W 𝓣 4 ps·2 r·2 (claims· .4) (claims· .5)
+          "prove::right") → Statement.Triple 𝓤 (Wp.WpFn 𝓤 H (𝓣 .C) (𝓣 .Λ) (Function.fnOf 4 ps r xs m hs body)) (Function.plainOf 𝓤 H A 4
+          ps r Pre· Post·)
 
     module _ where
       abbrev at0 : Typed.TF T36 O1
@@ -1499,7 +1502,8 @@ module _ (claims· : Claims) where
       module _ {M : Type 1} (𝓤 : URA.URA M) (H : Wp.Heap 𝓤) (A : Atoms.Atoms 𝓤) (W : Kit.Given 𝓤 H A) (𝓣 : Wp.Tables 𝓤 H) where
         abbrev Knowns : Type 1
         Knowns = Plain.Known 𝓤 H A W 𝓣 1 ps·0 r·0 (claims· .0) (claims· .1) "identifier_generator::fresh" × Plain.Known 𝓤 H A W 𝓣 3 ps·1
-            r·1 (claims· .2) (claims· .3) "premises::first" × Plain.Known 𝓤 H A W 𝓣 4 ps·2 r·2 (claims· .4) (claims· .5) "prove::right"
+            r·1 (claims· .2) (claims· .3) "search_premises::first" × Plain.Known 𝓤 H A W 𝓣 4 ps·2 r·2 (claims· .4) (claims· .5)
+            "prove::right"
 
       module _ (κs : Lifetimes.Lfts 4) (qs : Lifetimes.Shares 4) where
         abbrev g7 : List.List Row.Entry
@@ -2420,7 +2424,7 @@ module _ (claims· : Claims) where
 
           d42 : Typed.Typed 𝓤 H A 𝓣 E G17 b35 Δ0 at42
           d42 = Typed.s-seq 𝓤 H A W 𝓣 E G17 G18 b9 b34 Δ0 (Typed.both s16) at41 (Plain.t-call-plain 𝓤 H A W 𝓣 3 ps·1 r·1 (claims· .2)
-              (claims· .3) "premises::first" (known .1) E (λ pos β. β) G17 (
+              (claims· .3) "search_premises::first" (known .1) E (λ pos β. β) G17 (
                 record
                     { pos = 17; ty = Syntax.tyRef Syntax.erased Syntax.mut y4; ref = λ x. x },
                 (
@@ -2713,31 +2717,32 @@ module _ (claims· : Claims) where
 
       module _ (κs : Lifetimes.Lfts 4) where
         pub record Args : Type 0 where
-          pub f : Kinds.Den {n = 4} κs (MutSlice.pMutS (Referent.rtF (Referent.fInt Syntax.w32)) 0 tt)
-          pub t : Kinds.Den {n = 4} κs (MutSlice.pMutS (Referent.rtF (Referent.fInt Syntax.w16)) 1 tt)
-          pub w : Kinds.Den {n = 4} κs (MutSlice.pMutS Element.row 2 tt)
-          pub k : Kinds.Den {n = 4} κs (ShrSlice.pShrS (Referent.rtF (Referent.fInt Syntax.w8)) 3 tt)
-          pub m : Kinds.Den {n = 4} κs (Value.pVal record {
+          pub words : Kinds.Den {n = 4} κs (MutSlice.pMutS (Referent.rtF (Referent.fInt Syntax.w32)) 0 tt)
+          pub terms : Kinds.Den {n = 4} κs (MutSlice.pMutS (Referent.rtF (Referent.fInt Syntax.w16)) 1 tt)
+          pub work : Kinds.Den {n = 4} κs (MutSlice.pMutS Element.row 2 tt)
+          pub names : Kinds.Den {n = 4} κs (ShrSlice.pShrS (Referent.rtF (Referent.fInt Syntax.w8)) 3 tt)
+          pub limits : Kinds.Den {n = 4} κs (Value.pVal record {
             ty = Declared'.row Limits.the-type;
             one = Path'.refl;
-            val = Laws'6.val
-                Limits.the-type Laws'.the-laws;
+            val =
+                Laws'6.val Limits.the-type Laws'.the-laws;
             tells = Laws'6.tells Limits.the-type Laws'.the-laws;
-            still = Laws'6.still Limits.the-type
-                Laws'.the-copy Exit.yes;
+            still = Laws'6.still
+                Limits.the-type Laws'.the-copy Exit.yes;
             row = Rows.whole (Declared'.row Limits.the-type);
             rd = λ x. x;
             mk = λ x. x;
-          } λ M 𝓤 H A W. record {
-            copies = Laws'6.copy Limits.the-type Laws'.the-copy 𝓤 H A W;
-            lawful = Laws'6.lawful Limits.the-type Laws'.the-laws 𝓤 H A
-                W;
-            makes = Laws'6.makes Limits.the-type Laws'.the-plain 𝓤 H A;
-            in-mem = Local.mem-whole 𝓤 H A W (Declared'.row
-                Limits.the-type);
-            of-mem = Local.whole-mem 𝓤 H A W (Declared'.row Limits.the-type);
-          })
-          pub st : Kinds.Den {n = 4} κs (Value.pVal record {
+          } λ M
+              𝓤 H A W. record {
+                copies = Laws'6.copy Limits.the-type Laws'.the-copy 𝓤 H A W;
+                lawful = Laws'6.lawful Limits.the-type
+                    Laws'.the-laws 𝓤 H A W;
+                makes = Laws'6.makes Limits.the-type Laws'.the-plain 𝓤 H A;
+                in-mem = Local.mem-whole 𝓤 H A W
+                    (Declared'.row Limits.the-type);
+                of-mem = Local.whole-mem 𝓤 H A W (Declared'.row Limits.the-type);
+              })
+          pub state : Kinds.Den {n = 4} κs (Value.pVal record {
             ty = Declared'.row State.the-type;
             one = Path'.refl;
             val = Laws'6.val
@@ -2757,11 +2762,11 @@ module _ (claims· : Claims) where
                 State.the-type);
             of-mem = Local.whole-mem 𝓤 H A W (Declared'.row State.the-type);
           })
-          pub q : Kinds.Den {n = 4} κs (Value.pVal record {
+          pub sequent : Kinds.Den {n = 4} κs (Value.pVal record {
             ty = Declared'.row Sequent.the-type;
             one = Path'.refl;
-            val = Laws'6.val
-                Sequent.the-type Laws''.the-laws;
+            val =
+                Laws'6.val Sequent.the-type Laws''.the-laws;
             tells = Laws'6.tells Sequent.the-type Laws''.the-laws;
             still = Laws'6.still
                 Sequent.the-type Laws''.the-copy Exit.yes;
@@ -2781,7 +2786,7 @@ module _ (claims· : Claims) where
           pub i : Kinds.Den {n = 4} κs (Num.pNum Syntax.w64)
 
         abbrev pub dens : (a : Args) → Kinds.Dens κs ps
-        dens = λ a. (a .f, (a .t, (a .w, (a .k, (a .m, (a .st, (a .q, (a .i, tt))))))))
+        dens = λ a. (a .words, (a .terms, (a .work, (a .names, (a .limits, (a .state, (a .sequent, (a .i, tt))))))))
 
         module _ (args· : Args) where
           pub record Ranges : Type 0 where
@@ -3020,22 +3025,22 @@ module _ (claims· : Claims) where
       m16 = λ before given. s19 .next (m15 (before .before) (After-first·gave before)) given
 
       module _ (before· : After-first) where
-        pub record After-f·own : Type 0 where
+        pub record After-words·own : Type 0 where
           pub given : s19 .gives (m15 (before· .before) (After-first·gave before·))
 
-      pub record After-f : Type 0 where
+      pub record After-words : Type 0 where
         pub before : After-first
-        pub f : After-f·own before
+        pub words : After-words·own before
 
-      abbrev pub m17 : (before : After-f) → (given : s20 .gives (m16 (before .before) (before .f .given))) → Typed.Mo T23
-      m17 = λ before given. s20 .next (m16 (before .before) (before .f .given)) given
+      abbrev pub m17 : (before : After-words) → (given : s20 .gives (m16 (before .before) (before .words .given))) → Typed.Mo T23
+      m17 = λ before given. s20 .next (m16 (before .before) (before .words .given)) given
 
-      module _ (before· : After-f) where
+      module _ (before· : After-words) where
         pub record After-slice-known3·own : Type 0 where
-          pub given : s20 .gives (m16 (before· .before) (before· .f .given))
+          pub given : s20 .gives (m16 (before· .before) (before· .words .given))
 
       pub record After-slice-known3 : Type 0 where
-        pub before : After-f
+        pub before : After-words
         pub slice-known3 : After-slice-known3·own before
 
       abbrev pub m18 : (before : After-slice-known3) → (given : s23 .gives (m17 (before .before) (before .slice-known3 .given))) →
@@ -3043,22 +3048,22 @@ module _ (claims· : Claims) where
       m18 = λ before given. s23 .next (m17 (before .before) (before .slice-known3 .given)) given
 
       module _ (before· : After-slice-known3) where
-        pub record After-t·own : Type 0 where
+        pub record After-terms·own : Type 0 where
           pub given : s23 .gives (m17 (before· .before) (before· .slice-known3 .given))
 
-      pub record After-t : Type 0 where
+      pub record After-terms : Type 0 where
         pub before : After-slice-known3
-        pub t : After-t·own before
+        pub terms : After-terms·own before
 
-      abbrev pub m19 : (before : After-t) → (given : s24 .gives (m18 (before .before) (before .t .given))) → Typed.Mo T27
-      m19 = λ before given. s24 .next (m18 (before .before) (before .t .given)) given
+      abbrev pub m19 : (before : After-terms) → (given : s24 .gives (m18 (before .before) (before .terms .given))) → Typed.Mo T27
+      m19 = λ before given. s24 .next (m18 (before .before) (before .terms .given)) given
 
-      module _ (before· : After-t) where
+      module _ (before· : After-terms) where
         pub record After-slice-known4·own : Type 0 where
-          pub given : s24 .gives (m18 (before· .before) (before· .t .given))
+          pub given : s24 .gives (m18 (before· .before) (before· .terms .given))
 
       pub record After-slice-known4 : Type 0 where
-        pub before : After-t
+        pub before : After-terms
         pub slice-known4 : After-slice-known4·own before
 
       abbrev pub m20 : (before : After-slice-known4) → (given : s27 .gives (m19 (before .before) (before .slice-known4 .given))) →
@@ -3066,32 +3071,32 @@ module _ (claims· : Claims) where
       m20 = λ before given. s27 .next (m19 (before .before) (before .slice-known4 .given)) given
 
       module _ (before· : After-slice-known4) where
-        pub record After-w·own : Type 0 where
+        pub record After-work·own : Type 0 where
           pub given : s27 .gives (m19 (before· .before) (before· .slice-known4 .given))
 
-      pub record After-w : Type 0 where
+      pub record After-work : Type 0 where
         pub before : After-slice-known4
-        pub w : After-w·own before
+        pub work : After-work·own before
 
-      module _ (before· : After-w) where
+      module _ (before· : After-work) where
         pub record At-match-keys1·own : Type 0 where
-          pub keys1 : Run.OneOf (1 ∷ []) (Declared.tagOf Ready.the-type (Row.get 15 (T30 .locals) (m20 (before· .before) (before· .w
+          pub keys1 : Run.OneOf (1 ∷ []) (Declared.tagOf Ready.the-type (Row.get 15 (T30 .locals) (m20 (before· .before) (before· .work
               .given))))
 
       pub record At-match-keys1 : Type 0 where
-        pub before : After-w
+        pub before : After-work
         pub match : At-match-keys1·own before
 
       abbrev pub Need-enum-known-n : Type 0
-      Need-enum-known-n = (c : At-match-keys1) → s29 .asks (m20 (c .before .before) (c .before .w .given))
+      Need-enum-known-n = (c : At-match-keys1) → s29 .asks (m20 (c .before .before) (c .before .work .given))
 
-      abbrev pub m21 : (before : At-match-keys1) → (given : s29 .gives (m20 (before .before .before) (before .before .w .given))) →
+      abbrev pub m21 : (before : At-match-keys1) → (given : s29 .gives (m20 (before .before .before) (before .before .work .given))) →
           Typed.Mo T32
-      m21 = λ before given. s29 .next (m20 (before .before .before) (before .before .w .given)) given
+      m21 = λ before given. s29 .next (m20 (before .before .before) (before .before .work .given)) given
 
       module _ (before· : At-match-keys1) where
         pub record After-n·own : Type 0 where
-          pub given : s29 .gives (m20 (before· .before .before) (before· .before .w .given))
+          pub given : s29 .gives (m20 (before· .before .before) (before· .before .work .given))
 
       pub record After-n : Type 0 where
         pub before : At-match-keys1
@@ -3126,25 +3131,25 @@ module _ (claims· : Claims) where
         pub before : After-n
         pub known-told : After-known-told·own before
 
-      module _ (before· : After-w) where
+      module _ (before· : After-work) where
         pub record At-match-keys2·own : Type 0 where
-          pub keys2 : Run.OneOf (0 ∷ []) (Declared.tagOf Ready.the-type (Row.get 15 (T30 .locals) (m20 (before· .before) (before· .w
+          pub keys2 : Run.OneOf (0 ∷ []) (Declared.tagOf Ready.the-type (Row.get 15 (T30 .locals) (m20 (before· .before) (before· .work
               .given))))
 
       pub record At-match-keys2 : Type 0 where
-        pub before : After-w
+        pub before : After-work
         pub match : At-match-keys2·own before
 
       abbrev pub Need-enum-known-s1 : Type 0
-      Need-enum-known-s1 = (c : At-match-keys2) → s37 .asks (m20 (c .before .before) (c .before .w .given))
+      Need-enum-known-s1 = (c : At-match-keys2) → s37 .asks (m20 (c .before .before) (c .before .work .given))
 
-      abbrev pub m29 : (before : At-match-keys2) → (given : s37 .gives (m20 (before .before .before) (before .before .w .given))) →
+      abbrev pub m29 : (before : At-match-keys2) → (given : s37 .gives (m20 (before .before .before) (before .before .work .given))) →
           Typed.Mo T40
-      m29 = λ before given. s37 .next (m20 (before .before .before) (before .before .w .given)) given
+      m29 = λ before given. s37 .next (m20 (before .before .before) (before .before .work .given)) given
 
       module _ (before· : At-match-keys2) where
         pub record After-s1·own : Type 0 where
-          pub given : s37 .gives (m20 (before· .before .before) (before· .before .w .given))
+          pub given : s37 .gives (m20 (before· .before .before) (before· .before .work .given))
 
       pub record After-s1 : Type 0 where
         pub before : At-match-keys2
@@ -3297,22 +3302,22 @@ module _ (claims· : Claims) where
       m45 = λ before given. s57 .next (m44 (before .before) (After-right·gave before)) given
 
       module _ (before· : After-right) where
-        pub record After-f2·own : Type 0 where
+        pub record After-words2·own : Type 0 where
           pub given : s57 .gives (m44 (before· .before) (After-right·gave before·))
 
-      pub record After-f2 : Type 0 where
+      pub record After-words2 : Type 0 where
         pub before : After-right
-        pub f2 : After-f2·own before
+        pub words2 : After-words2·own before
 
-      abbrev pub m46 : (before : After-f2) → (given : s58 .gives (m45 (before .before) (before .f2 .given))) → Typed.Mo T61
-      m46 = λ before given. s58 .next (m45 (before .before) (before .f2 .given)) given
+      abbrev pub m46 : (before : After-words2) → (given : s58 .gives (m45 (before .before) (before .words2 .given))) → Typed.Mo T61
+      m46 = λ before given. s58 .next (m45 (before .before) (before .words2 .given)) given
 
-      module _ (before· : After-f2) where
+      module _ (before· : After-words2) where
         pub record After-slice-known5·own : Type 0 where
-          pub given : s58 .gives (m45 (before· .before) (before· .f2 .given))
+          pub given : s58 .gives (m45 (before· .before) (before· .words2 .given))
 
       pub record After-slice-known5 : Type 0 where
-        pub before : After-f2
+        pub before : After-words2
         pub slice-known5 : After-slice-known5·own before
 
       abbrev pub m47 : (before : After-slice-known5) → (given : s61 .gives (m46 (before .before) (before .slice-known5 .given))) →
@@ -3320,22 +3325,22 @@ module _ (claims· : Claims) where
       m47 = λ before given. s61 .next (m46 (before .before) (before .slice-known5 .given)) given
 
       module _ (before· : After-slice-known5) where
-        pub record After-t2·own : Type 0 where
+        pub record After-terms2·own : Type 0 where
           pub given : s61 .gives (m46 (before· .before) (before· .slice-known5 .given))
 
-      pub record After-t2 : Type 0 where
+      pub record After-terms2 : Type 0 where
         pub before : After-slice-known5
-        pub t2 : After-t2·own before
+        pub terms2 : After-terms2·own before
 
-      abbrev pub m48 : (before : After-t2) → (given : s62 .gives (m47 (before .before) (before .t2 .given))) → Typed.Mo T65
-      m48 = λ before given. s62 .next (m47 (before .before) (before .t2 .given)) given
+      abbrev pub m48 : (before : After-terms2) → (given : s62 .gives (m47 (before .before) (before .terms2 .given))) → Typed.Mo T65
+      m48 = λ before given. s62 .next (m47 (before .before) (before .terms2 .given)) given
 
-      module _ (before· : After-t2) where
+      module _ (before· : After-terms2) where
         pub record After-slice-known6·own : Type 0 where
-          pub given : s62 .gives (m47 (before· .before) (before· .t2 .given))
+          pub given : s62 .gives (m47 (before· .before) (before· .terms2 .given))
 
       pub record After-slice-known6 : Type 0 where
-        pub before : After-t2
+        pub before : After-terms2
         pub slice-known6 : After-slice-known6·own before
 
       abbrev pub m49 : (before : After-slice-known6) → (given : s65 .gives (m48 (before .before) (before .slice-known6 .given))) →
@@ -3343,12 +3348,12 @@ module _ (claims· : Claims) where
       m49 = λ before given. s65 .next (m48 (before .before) (before .slice-known6 .given)) given
 
       module _ (before· : After-slice-known6) where
-        pub record After-w2·own : Type 0 where
+        pub record After-work2·own : Type 0 where
           pub given : s65 .gives (m48 (before· .before) (before· .slice-known6 .given))
 
-      pub record After-w2 : Type 0 where
+      pub record After-work2 : Type 0 where
         pub before : After-slice-known6
-        pub w2 : After-w2·own before
+        pub work2 : After-work2·own before
 
       abbrev pub m50 : (before : After-n) → (given : s30 .gives (m21 (before .before) (before .n .given))) → Typed.Mo T70
       m50 = λ before given. s67 (m28 before given)
@@ -3420,85 +3425,89 @@ module _ (claims· : Claims) where
       m59 = λ before given. s71 (m58 before given)
 
       abbrev pub Need-same-length-4 : Type 0
-      Need-same-length-4 = (c : After-w2) → MutSlice.SameLen (Row.get 1 (T74 .locals) (m59 (c .before) (c .w2 .given))) (dens (c .before
-          .before .before .before .before .before .before .before .before .before .before .before .before .before .before .before
-          .before .before .before .before .before .before .before .before .before .before .κs) (c .before .before .before .before
-          .before .before .before .before .before .before .before .before .before .before .before .before .before .before .before
-          .before .before .before .before .before .before .before .args) .0)
-
-      abbrev pub Need-same-length-5 : Type 0
-      Need-same-length-5 = (c : After-w2) → MutSlice.SameLen (Row.get 2 (T74 .locals) (m59 (c .before) (c .w2 .given))) (dens (c .before
-          .before .before .before .before .before .before .before .before .before .before .before .before .before .before .before
-          .before .before .before .before .before .before .before .before .before .before .κs) (c .before .before .before .before
-          .before .before .before .before .before .before .before .before .before .before .before .before .before .before .before
-          .before .before .before .before .before .before .before .args) .1 .0)
-
-      abbrev pub Need-same-length-6 : Type 0
-      Need-same-length-6 = (c : After-w2) → MutSlice.SameLen (Row.get 3 (T74 .locals) (m59 (c .before) (c .w2 .given))) (dens (c .before
-          .before .before .before .before .before .before .before .before .before .before .before .before .before .before .before
-          .before .before .before .before .before .before .before .before .before .before .κs) (c .before .before .before .before
-          .before .before .before .before .before .before .before .before .before .before .before .before .before .before .before
-          .before .before .before .before .before .before .before .args) .1 .1 .0)
-
-      abbrev pub Need-returns-2 : Type 0
-      Need-returns-2 = (c : After-w2) → Post· (c .before .before .before .before .before .before .before .before .before .before .before
-          .before .before .before .before .before .before .before .before .before .before .before .before .before .before .before .κs)
-          (dens (c .before .before .before .before .before .before .before .before .before .before .before .before .before .before
-          .before .before .before .before .before .before .before .before .before .before .before .before .κs) (c .before .before
-          .before .before .before .before .before .before .before .before .before .before .before .before .before .before .before
-          .before .before .before .before .before .before .before .before .before .args)) (Function.resV r (c .before .before .before
-          .before .before .before .before .before .before .before .before .before .before .before .before .before .before .before
-          .before .before .before .before .before .before .before .before .κs) (m59 (c .before) (c .w2 .given) .0)) (Clauses.atExit
-          (Kinds.endedOf 4 ps r) (c .before .before .before .before .before .before .before .before .before .before .before .before
-          .before .before .before .before .before .before .before .before .before .before .before .before .before .before .κs) (dens (c
+      Need-same-length-4 = (c : After-work2) → MutSlice.SameLen (Row.get 1 (T74 .locals) (m59 (c .before) (c .work2 .given))) (dens (c
           .before .before .before .before .before .before .before .before .before .before .before .before .before .before .before
           .before .before .before .before .before .before .before .before .before .before .before .κs) (c .before .before .before
           .before .before .before .before .before .before .before .before .before .before .before .before .before .before .before
-          .before .before .before .before .before .before .before .before .args)) (Enter.lastsP (c .before .before .before .before
+          .before .before .before .before .before .before .before .before .args) .0)
+
+      abbrev pub Need-same-length-5 : Type 0
+      Need-same-length-5 = (c : After-work2) → MutSlice.SameLen (Row.get 2 (T74 .locals) (m59 (c .before) (c .work2 .given))) (dens (c
           .before .before .before .before .before .before .before .before .before .before .before .before .before .before .before
-          .before .before .before .before .before .before .before .κs) 1 ps xs (dens (c .before .before .before .before .before .before
+          .before .before .before .before .before .before .before .before .before .before .before .κs) (c .before .before .before
           .before .before .before .before .before .before .before .before .before .before .before .before .before .before .before
-          .before .before .before .before .before .κs) (c .before .before .before .before .before .before .before .before .before
+          .before .before .before .before .before .before .before .before .args) .1 .0)
+
+      abbrev pub Need-same-length-6 : Type 0
+      Need-same-length-6 = (c : After-work2) → MutSlice.SameLen (Row.get 3 (T74 .locals) (m59 (c .before) (c .work2 .given))) (dens (c
           .before .before .before .before .before .before .before .before .before .before .before .before .before .before .before
-          .before .before .args)) (m59 (c .before) (c .w2 .given) .1)))
+          .before .before .before .before .before .before .before .before .before .before .before .κs) (c .before .before .before
+          .before .before .before .before .before .before .before .before .before .before .before .before .before .before .before
+          .before .before .before .before .before .before .before .before .args) .1 .1 .0)
+
+      abbrev pub Need-returns-2 : Type 0
+      Need-returns-2 = (c : After-work2) → Post· (c .before .before .before .before .before .before .before .before .before .before
+          .before .before .before .before .before .before .before .before .before .before .before .before .before .before .before
+          .before .κs) (dens (c .before .before .before .before .before .before .before .before .before .before .before .before .before
+          .before .before .before .before .before .before .before .before .before .before .before .before .before .κs) (c .before
+          .before .before .before .before .before .before .before .before .before .before .before .before .before .before .before
+          .before .before .before .before .before .before .before .before .before .before .args)) (Function.resV r (c .before .before
+          .before .before .before .before .before .before .before .before .before .before .before .before .before .before .before
+          .before .before .before .before .before .before .before .before .before .κs) (m59 (c .before) (c .work2 .given) .0))
+          (Clauses.atExit (Kinds.endedOf 4 ps r) (c .before .before .before .before .before .before .before .before .before .before
+          .before .before .before .before .before .before .before .before .before .before .before .before .before .before .before
+          .before .κs) (dens (c .before .before .before .before .before .before .before .before .before .before .before .before .before
+          .before .before .before .before .before .before .before .before .before .before .before .before .before .κs) (c .before
+          .before .before .before .before .before .before .before .before .before .before .before .before .before .before .before
+          .before .before .before .before .before .before .before .before .before .before .args)) (Enter.lastsP (c .before .before
+          .before .before .before .before .before .before .before .before .before .before .before .before .before .before .before
+          .before .before .before .before .before .before .before .before .before .κs) 1 ps xs (dens (c .before .before .before .before
+          .before .before .before .before .before .before .before .before .before .before .before .before .before .before .before
+          .before .before .before .before .before .before .before .κs) (c .before .before .before .before .before .before .before
+          .before .before .before .before .before .before .before .before .before .before .before .before .before .before .before
+          .before .before .before .before .args)) (m59 (c .before) (c .work2 .given) .1)))
 
       module _ (fresh-requires : Need-fresh-requires) (add-fresh : Need-add-fresh) (fresh-requires-2 : Need-fresh-requires-2)
           (first-requires : Need-first-requires) (enum-known-n : Need-enum-known-n) (enum-known-s1 : Need-enum-known-s1) (right-requires
           : Need-right-requires) (same-length : Need-same-length) (same-length-2 : Need-same-length-2) (same-length-3 :
           Need-same-length-3) (returns : Need-returns) (same-length-4 : Need-same-length-4) (same-length-5 : Need-same-length-5)
           (same-length-6 : Need-same-length-6) (returns-2 : Need-returns-2) where
-        lay5 : (c : After-w2) → at40 (W0 (c .before .before .before .before .before .before .before .before .before .before .before
+        lay5 : (c : After-work2) → at40 (W0 (c .before .before .before .before .before .before .before .before .before .before .before
             .before .before .before .before .before .before .before .before .before .before .before .before .before .before .before .κs)
             (c .before .before .before .before .before .before .before .before .before .before .before .before .before .before .before
-            .before .before .before .before .before .before .before .before .before .before .before .args)) (m49 (c .before) (c .w2
+            .before .before .before .before .before .before .before .before .before .before .before .args)) (m49 (c .before) (c .work2
             .given))
         lay5 = λ c. (
           (
-            MutSlice.fix-len (Row.get 1 (T74 .locals) (m59 (c .before) (c .w2 .given)) .ptr) (Row.get 1 (T74 .locals) (m59 (c
-                .before) (c .w2 .given)) .name) (Row.get 1 (T74 .locals) (m59 (c .before) (c .w2 .given)) .now) (dens (c .before .before
+            MutSlice.fix-len (Row.get 1 (T74 .locals) (m59 (c .before) (c .work2 .given)) .ptr) (Row.get 1 (T74 .locals) (m59
+                (c .before) (c .work2 .given)) .name) (Row.get 1 (T74 .locals) (m59 (c .before) (c .work2 .given)) .now) (dens (c .before
                 .before .before .before .before .before .before .before .before .before .before .before .before .before .before .before
-                .before .before .before .before .before .before .before .before .before .κs) (c .before .before .before .before .before
+                .before .before .before .before .before .before .before .before .before .before .κs) (c .before .before .before .before
                 .before .before .before .before .before .before .before .before .before .before .before .before .before .before .before
-                .before .before .before .before .before .before .args) .0 .now) (same-length-4 record { before = c .before; w2 = c .w2 }),
+                .before .before .before .before .before .before .before .args) .0 .now) (same-length-4 record
+                { before = c .before; work2 = c .work2 }),
             (
-              MutSlice.fix-len (Row.get 2 (T74 .locals) (m59 (c .before) (c .w2 .given)) .ptr) (Row.get 2 (T74 .locals) (m59 (c .before)
-                  (c .w2 .given)) .name) (Row.get 2 (T74 .locals) (m59 (c .before) (c .w2 .given)) .now) (dens (c .before .before .before
-                  .before .before .before .before .before .before .before .before .before .before .before .before .before .before .before
-                  .before .before .before .before .before .before .before .before .κs) (c .before .before .before .before .before .before
-                  .before .before .before .before .before .before .before .before .before .before .before .before .before .before .before
-                  .before .before .before .before .before .args) .1 .0 .now) (same-length-5 record { before = c .before; w2 = c .w2 }),
+              MutSlice.fix-len (Row.get 2 (T74 .locals) (m59 (c .before) (c .work2 .given))
+                  .ptr) (Row.get 2 (T74 .locals) (m59 (c .before) (c .work2 .given)) .name) (Row.get 2 (T74 .locals) (m59 (c .before) (c
+                  .work2 .given)) .now) (dens (c .before .before .before .before .before .before .before .before .before .before .before
+                  .before .before .before .before .before .before .before .before .before .before .before .before .before .before .before .κs)
+                  (c .before .before .before .before .before .before .before .before .before .before .before .before .before .before .before
+                  .before .before .before .before .before .before .before .before .before .before .before .args) .1 .0 .now) (same-length-5
+                  record { before = c .before; work2 = c .work2 }),
               (
-                MutSlice.fix-len (Row.get 3 (T74 .locals) (m59 (c .before) (c .w2 .given)) .ptr) (Row.get 3 (T74 .locals) (m59 (c .before)
-                    (c .w2 .given)) .name) (Row.get 3 (T74 .locals) (m59 (c .before) (c .w2 .given)) .now) (dens (c .before .before .before
-                    .before .before .before .before .before .before .before .before .before .before .before .before .before .before .before
-                    .before .before .before .before .before .before .before .before .κs) (c .before .before .before .before .before .before
-                    .before .before .before .before .before .before .before .before .before .before .before .before .before .before .before
-                    .before .before .before .before .before .args) .1 .1 .0 .now) (same-length-6 record { before = c .before; w2 = c .w2 }),
+                MutSlice.fix-len (Row.get 3 (T74 .locals) (m59 (c .before) (c .work2
+                    .given)) .ptr) (Row.get 3 (T74 .locals) (m59 (c .before) (c .work2 .given)) .name) (Row.get 3 (T74 .locals) (m59 (c .before)
+                    (c .work2 .given)) .now) (dens (c .before .before .before .before .before .before .before .before .before .before .before
+                    .before .before .before .before .before .before .before .before .before .before .before .before .before .before .before .κs)
+                    (c .before .before .before .before .before .before .before .before .before .before .before .before .before .before .before
+                    .before .before .before .before .before .before .before .before .before .before .before .args) .1 .1 .0 .now) (same-length-6
+                    record { before = c .before; work2 = c .work2 }),
                 (Path'.refl, (tt, (tt, (tt, (tt, tt))))),
               ),
             ),
           ),
-          returns-2 record { before = c .before; w2 = c .w2 },
+          returns-2 record
+              { before = c .before; work2 = c .work2 },
         )
 
         lay4 : (c : After-known-told) → at40 (W0 (c .before .before .before .before .before .before .before .before .before .before
@@ -3550,39 +3559,40 @@ module _ (claims· : Claims) where
                         before = record {
                           before = record {
                             before = record
-                                { before = record { before = c .before; first = c .first }; f = record { given = g } };
+                                { before = record { before = c .before; first = c .first }; words = record { given = g } };
                             slice-known3 = record
                                 { given = g' };
                           };
-                          t = record { given = g'' };
+                          terms = record { given = g'' };
                         };
                         slice-known4 = record { given = g'3 };
                       };
-                      w = record { given = g'4 };
+                      work = record
+                          { given = g'4 };
                     };
-                    match
-                        = record { keys1 = k };
+                    match = record { keys1 = k };
                   },
                   λ g'5. λ g'6. lay4 record {
                     before = record {
                       before = record {
-                        before = record {
-                          before = record {
-                            before = record {
+                        before =
+                            record {
                               before = record {
-                                before = record
-                                    { before = record { before = c .before; first = c .first }; f = record { given = g } };
-                                slice-known3 = record
-                                    { given = g' };
+                                before = record {
+                                  before = record {
+                                    before = record
+                                        { before = record { before = c .before; first = c .first }; words = record { given = g } };
+                                    slice-known3 = record
+                                        { given = g' };
+                                  };
+                                  terms = record { given = g'' };
+                                };
+                                slice-known4 = record { given = g'3 };
                               };
-                              t = record { given = g'' };
+                              work = record
+                                  { given = g'4 };
                             };
-                            slice-known4 = record { given = g'3 };
-                          };
-                          w = record { given = g'4 };
-                        };
-                        match
-                            = record { keys1 = k };
+                        match = record { keys1 = k };
                       };
                       n = record { given = g'5 };
                     };
@@ -3590,36 +3600,35 @@ module _ (claims· : Claims) where
                   },
                 ),
                 (
-                  λ k. (
-                    enum-known-s1 record {
-                      before = record {
-                        before = record {
+                  λ
+                      k. (
+                        enum-known-s1 record {
                           before = record {
                             before = record {
-                              before = record
-                                  { before = record { before = c .before; first = c .first }; f = record { given = g } };
-                              slice-known3 = record
-                                  { given = g' };
-                            };
-                            t = record { given = g'' };
-                          };
-                          slice-known4 = record { given = g'3 };
-                        };
-                        w = record { given = g'4 };
-                      };
-                      match
-                          = record { keys2 = k };
-                    },
-                    λ g'7. λ g'8. λ g'9. (
-                      Path'.refl,
-                      λ g'10. (
-                        Path'.refl,
-                        λ g'11. (
-                          Path'.refl,
-                          (
-                            right-requires record {
                               before = record {
                                 before = record {
+                                  before = record
+                                      { before = record { before = c .before; first = c .first }; words = record { given = g } };
+                                  slice-known3 = record
+                                      { given = g' };
+                                };
+                                terms = record { given = g'' };
+                              };
+                              slice-known4 = record { given = g'3 };
+                            };
+                            work = record
+                                { given = g'4 };
+                          };
+                          match = record { keys2 = k };
+                        },
+                        λ g'7. λ g'8. λ g'9. (
+                          Path'.refl,
+                          λ g'10. (
+                            Path'.refl,
+                            λ g'11. (
+                              Path'.refl,
+                              (
+                                right-requires record {
                                   before = record {
                                     before = record {
                                       before = record {
@@ -3628,84 +3637,84 @@ module _ (claims· : Claims) where
                                               record {
                                                 before = record {
                                                   before = record {
-                                                    before = record
-                                                        { before = record { before = c .before; first = c .first }; f = record { given = g } };
-                                                    slice-known3 = record
-                                                        { given = g' };
+                                                    before = record {
+                                                      before = record {
+                                                        before = record
+                                                            { before = record { before = c .before; first = c .first }; words = record { given = g } };
+                                                        slice-known3 = record
+                                                            { given = g' };
+                                                      };
+                                                      terms = record { given = g'' };
+                                                    };
+                                                    slice-known4 = record { given = g'3 };
                                                   };
-                                                  t = record { given = g'' };
+                                                  work = record
+                                                      { given = g'4 };
                                                 };
-                                                slice-known4 = record { given = g'3 };
+                                                match = record { keys2 = k };
                                               };
-                                          w = record { given = g'4 };
+                                          s1 = record { given = g'7 };
                                         };
-                                        match
-                                            = record { keys2 = k };
+                                        known-told2 = record { given = g'8 };
                                       };
-                                      s1 = record { given = g'7 };
+                                      right-arg = record { given = g'9 };
                                     };
-                                    known-told2 = record { given = g'8 };
+                                    right-arg2 = record { given = g'10 };
                                   };
-                                  right-arg = record
-                                      { given = g'9 };
-                                };
-                                right-arg2 = record { given = g'10 };
-                              };
-                              right-arg3 = record { given = g'11 };
-                            },
-                            λ g'12. (
-                              Path'.refl,
-                              λ
-                                  g'13. λ g'14. (
-                                    Path'.refl,
-                                    λ g'15. λ g'16. (
+                                  right-arg3 = record { given = g'11 };
+                                },
+                                λ
+                                    g'12. (
                                       Path'.refl,
-                                      λ g'17. lay5 record {
-                                        before = record {
-                                          before = record {
-                                            before =
-                                                record {
-                                                  before = record {
+                                      λ g'13. λ g'14. (
+                                        Path'.refl,
+                                        λ g'15. λ g'16. (
+                                          Path'.refl,
+                                          λ g'17. lay5 record {
+                                            before = record {
+                                              before
+                                                  = record {
                                                     before = record {
                                                       before = record {
                                                         before = record {
                                                           before = record {
                                                             before = record {
-                                                              before
-                                                                  = record {
+                                                              before = record {
+                                                                before = record {
+                                                                  before = record {
                                                                     before = record {
                                                                       before = record {
                                                                         before = record {
                                                                           before = record {
-                                                                            before = record {
-                                                                              before = record
-                                                                                  { before = record { before = c .before; first = c .first }; f = record { given = g } };
-                                                                              slice-known3 = record
-                                                                                  { given = g' };
-                                                                            };
-                                                                            t = record { given = g'' };
+                                                                            before =
+                                                                                record {
+                                                                                  before = record { before = record { before = c .before; first = c .first }; words = record { given = g } };
+                                                                                  slice-known3 = record { given = g' };
+                                                                                };
+                                                                            terms = record { given = g'' };
                                                                           };
                                                                           slice-known4 = record { given = g'3 };
                                                                         };
-                                                                        w = record { given = g'4 };
+                                                                        work =
+                                                                            record { given = g'4 };
                                                                       };
-                                                                      match
-                                                                          = record { keys2 = k };
+                                                                      match = record { keys2 = k };
                                                                     };
                                                                     s1 = record { given = g'7 };
                                                                   };
-                                                              known-told2 = record { given = g'8 };
+                                                                  known-told2 = record
+                                                                      { given = g'8 };
+                                                                };
+                                                                right-arg = record { given = g'9 };
+                                                              };
+                                                              right-arg2 = record { given = g'10 };
                                                             };
-                                                            right-arg = record
-                                                                { given = g'9 };
+                                                            right-arg3 = record
+                                                                { given = g'11 };
                                                           };
-                                                          right-arg2 = record { given = g'10 };
-                                                        };
-                                                        right-arg3 = record { given = g'11 };
-                                                      };
-                                                      right = Called.called
-                                                          ps·2 r·2 (claims· .5) T54 (
-                                                            record { pos = 24; ty = Syntax.tyRef Syntax.erased Syntax.mut y4; ref = λ x. x },
+                                                          right = Called.called ps·2 r·2 (claims· .5) T54 (
+                                                            record
+                                                                { pos = 24; ty = Syntax.tyRef Syntax.erased Syntax.mut y4; ref = λ x. x },
                                                             (
                                                               record
                                                                   { pos = 26; ty = Syntax.tyRef Syntax.erased Syntax.mut y7; ref = λ x. x },
@@ -3734,60 +3743,59 @@ module _ (claims· : Claims) where
                                                                             record {
                                                                               before = record {
                                                                                 before = record
-                                                                                    { before = record { before = c .before; first = c .first }; f = record { given = g } };
+                                                                                    { before = record { before = c .before; first = c .first }; words = record { given = g } };
                                                                                 slice-known3 = record
                                                                                     { given = g' };
                                                                               };
-                                                                              t = record { given = g'' };
+                                                                              terms = record { given = g'' };
                                                                             };
                                                                         slice-known4 = record { given = g'3 };
                                                                       };
-                                                                      w = record { given = g'4 };
+                                                                      work = record
+                                                                          { given = g'4 };
                                                                     };
-                                                                    match
-                                                                        = record { keys2 = k };
+                                                                    match = record { keys2 = k };
                                                                   };
                                                                   s1 = record { given = g'7 };
                                                                 };
                                                                 known-told2 = record { given = g'8 };
                                                               };
-                                                              right-arg = record
-                                                                  { given = g'9 };
+                                                              right-arg = record { given = g'9 };
                                                             };
                                                             right-arg2 = record { given = g'10 };
                                                           } g'11) g'12;
+                                                        };
+                                                        words2 = record
+                                                            { given = g'13 };
+                                                      };
+                                                      slice-known5 = record { given = g'14 };
                                                     };
-                                                    f2 = record { given = g'13 };
+                                                    terms2 = record { given = g'15 };
                                                   };
-                                                  slice-known5 =
-                                                      record { given = g'14 };
-                                                };
-                                            t2 = record { given = g'15 };
-                                          };
-                                          slice-known6 = record { given = g'16 };
-                                        };
-                                        w2 = record
-                                            { given = g'17 };
-                                      },
+                                              slice-known6 = record
+                                                  { given = g'16 };
+                                            };
+                                            work2 = record { given = g'17 };
+                                          },
+                                        ),
+                                      ),
                                     ),
-                                  ),
+                              ),
                             ),
                           ),
                         ),
                       ),
-                    ),
-                  ),
-                  Match.each-below 2 (λ j. (Unit {0} × (Run.OneOf (1 ∷ []) j → ⊥)) × (Run.OneOf (0 ∷ []) j → ⊥)
-                      → ⊥) (λ n. n .0 .1 Path'.refl, (λ n. n .1 Path'.refl, tt)) (Declared.tagOf Ready.the-type (Row.get 15 (T30 .locals) (m20
-                      record {
+                  Match.each-below 2 (λ j. (Unit {0} × (Run.OneOf (1 ∷ []) j
+                      → ⊥)) × (Run.OneOf (0 ∷ []) j → ⊥) → ⊥) (λ n. n .0 .1 Path'.refl, (λ n. n .1 Path'.refl, tt)) (Declared.tagOf Ready.the-type
+                      (Row.get 15 (T30 .locals) (m20 record {
                         before = record {
                           before = record {
                             before = record
-                                { before = record { before = c .before; first = c .first }; f = record { given = g } };
+                                { before = record { before = c .before; first = c .first }; words = record { given = g } };
                             slice-known3 = record
                                 { given = g' };
                           };
-                          t = record { given = g'' };
+                          terms = record { given = g'' };
                         };
                         slice-known4 = record { given = g'3 };
                       } g'4))) (Match.tag-small
@@ -3795,11 +3803,11 @@ module _ (claims· : Claims) where
                         before = record {
                           before = record {
                             before = record
-                                { before = record { before = c .before; first = c .first }; f = record { given = g } };
+                                { before = record { before = c .before; first = c .first }; words = record { given = g } };
                             slice-known3 = record
                                 { given = g' };
                           };
-                          t = record { given = g'' };
+                          terms = record { given = g'' };
                         };
                         slice-known4 = record { given = g'3 };
                       } g'4))),
@@ -3914,26 +3922,26 @@ module _ (claims· : Claims) where
           asked = λ a good pre bs. laid record {
             κs = κs;
             args = record {
-              f = a .0;
-              t = a .1 .0;
-              w = a .1 .1 .0;
-              k = a .1 .1 .1 .0;
-              m =
-                  a .1 .1 .1 .1 .0;
-              st = a .1 .1 .1 .1 .1 .0;
-              q = a .1 .1 .1 .1 .1 .1 .0;
-              i = a .1 .1 .1 .1 .1 .1 .1 .0;
+              words = a .0;
+              terms = a .1 .0;
+              work = a .1 .1 .0;
+              names = a .1
+                  .1 .1 .0;
+              limits = a .1 .1 .1 .1 .0;
+              state = a .1 .1 .1 .1 .1 .0;
+              sequent = a .1 .1 .1 .1 .1 .1 .0;
+              i = a .1 .1 .1 .1 .1
+                  .1 .1 .0;
             };
             good = good;
-            fits
-                = record { i = record { fits = good .1 .1 .1 .1 .1 .1 .1 .0 .1 } };
+            fits = record { i = record { fits = good .1 .1 .1 .1 .1 .1 .1 .0 .1 } };
             pre = pre;
           }
 
         module _ {M : Type 1} (𝓤 : URA.URA M) (H : Wp.Heap 𝓤) (A : Atoms.Atoms 𝓤) (W : Kit.Given 𝓤 H A) (𝓣 : Wp.Tables 𝓤 H) (known0 :
             Plain.Known 𝓤 H A W 𝓣 1 ps·0 r·0 (claims· .0) (claims· .1) "identifier_generator::fresh") (known1 : Plain.Known 𝓤 H A W 𝓣 3
-            ps·1 r·1 (claims· .2) (claims· .3) "premises::first") (known2 : Plain.Known 𝓤 H A W 𝓣 4 ps·2 r·2 (claims· .4) (claims· .5)
-            "prove::right") where
+            ps·1 r·1 (claims· .2) (claims· .3) "search_premises::first") (known2 : Plain.Known 𝓤 H A W 𝓣 4 ps·2 r·2 (claims· .4)
+            (claims· .5) "prove::right") where
           pub spec : Statement.Triple 𝓤 (Wp.WpFn 𝓤 H (𝓣 .C) (𝓣 .Λ) (Function.fnOf 4 ps r xs m hs body)) (Function.plainOf 𝓤 H A 4 ps r
               Pre· Post·)
           spec = Plain.t-fn-plain 𝓤 H A W 𝓣 4 ps r xs m hs body (λ κs qs bs. Φ) (λ κs qs bs bd. typed κs qs 𝓤 H A W 𝓣

@@ -1,16 +1,16 @@
 -- Made by tools/records.py from the sources; antt refuses it where it is stale. Assumes nothing.
 use Prim.Native.Nat
-use Rattle.context.proofs.Answer
-use Rattle.context.proofs.Answer.Laws
 use Rattle.context.proofs.Element
-use Rattle.context.proofs.Limits
-use Rattle.context.proofs.Limits.Laws as Laws'
-use Rattle.context.proofs.Next
-use Rattle.context.proofs.Next.Laws as Laws''
-use Rattle.context.proofs.Sequent
-use Rattle.context.proofs.Sequent.Laws as Laws'3
-use Rattle.context.proofs.State
-use Rattle.context.proofs.State.Laws as Laws'4
+use Rattle.meter.proofs.Answer
+use Rattle.meter.proofs.Answer.Laws
+use Rattle.meter.proofs.Limits
+use Rattle.meter.proofs.Limits.Laws as Laws'
+use Rattle.meter.proofs.Next
+use Rattle.meter.proofs.Next.Laws as Laws''
+use Rattle.meter.proofs.Sequent
+use Rattle.meter.proofs.Sequent.Laws as Laws'3
+use Rattle.meter.proofs.State
+use Rattle.meter.proofs.State.Laws as Laws'4
 use borrow.Author.Called
 use borrow.Enum.Known
 use borrow.Enum.Match
@@ -71,22 +71,22 @@ abbrev y0 : Syntax.Ty
 y0 = Syntax.tyInt Syntax.w64
 
 abbrev y1 : Syntax.Ty
-y1 = Syntax.tyStruct (99 ∷ 111 ∷ 110 ∷ 116 ∷ 101 ∷ 120 ∷ 116 ∷ 58 ∷ 58 ∷ 83 ∷ 116 ∷ 97 ∷ 116 ∷ 101 ∷ []) (Syntax.tcons y0 (Syntax.tcons
-    y0 (Syntax.tcons y0 (Syntax.tcons y0 Syntax.tnil))))
+y1 = Syntax.tyStruct (109 ∷ 101 ∷ 116 ∷ 101 ∷ 114 ∷ 58 ∷ 58 ∷ 83 ∷ 116 ∷ 97 ∷ 116 ∷ 101 ∷ []) (Syntax.tcons y0 (Syntax.tcons y0
+    (Syntax.tcons y0 (Syntax.tcons y0 Syntax.tnil))))
 
 abbrev y2 : Syntax.Ty
-y2 = Syntax.tyStruct (99 ∷ 111 ∷ 110 ∷ 116 ∷ 101 ∷ 120 ∷ 116 ∷ 58 ∷ 58 ∷ 83 ∷ 101 ∷ 113 ∷ 117 ∷ 101 ∷ 110 ∷ 116 ∷ []) (Syntax.tcons y0
+y2 = Syntax.tyStruct (109 ∷ 101 ∷ 116 ∷ 101 ∷ 114 ∷ 58 ∷ 58 ∷ 83 ∷ 101 ∷ 113 ∷ 117 ∷ 101 ∷ 110 ∷ 116 ∷ []) (Syntax.tcons y0
     (Syntax.tcons y0 (Syntax.tcons y0 (Syntax.tcons y0 Syntax.tnil))))
 
 abbrev y3 : Syntax.Ty
-y3 = Syntax.tyEnum (99 ∷ 111 ∷ 110 ∷ 116 ∷ 101 ∷ 120 ∷ 116 ∷ 58 ∷ 58 ∷ 65 ∷ 110 ∷ 115 ∷ 119 ∷ 101 ∷ 114 ∷ []) (Syntax.ttcons
-    (Syntax.tcons y0 (Syntax.tcons y1 Syntax.tnil)) (Syntax.ttcons (Syntax.tcons y1 Syntax.tnil) (Syntax.ttcons (Syntax.tcons y0
-    (Syntax.tcons y1 Syntax.tnil)) Syntax.ttnil)))
+y3 = Syntax.tyEnum (109 ∷ 101 ∷ 116 ∷ 101 ∷ 114 ∷ 58 ∷ 58 ∷ 65 ∷ 110 ∷ 115 ∷ 119 ∷ 101 ∷ 114 ∷ []) (Syntax.ttcons (Syntax.tcons y0
+    (Syntax.tcons y1 Syntax.tnil)) (Syntax.ttcons (Syntax.tcons y1 Syntax.tnil) (Syntax.ttcons (Syntax.tcons y0 (Syntax.tcons y1
+    Syntax.tnil)) Syntax.ttnil)))
 
 abbrev y4 : Syntax.Ty
-y4 = Syntax.tyEnum (99 ∷ 111 ∷ 110 ∷ 116 ∷ 101 ∷ 120 ∷ 116 ∷ 58 ∷ 58 ∷ 78 ∷ 101 ∷ 120 ∷ 116 ∷ []) (Syntax.ttcons (Syntax.tcons y1
-    (Syntax.tcons y2 Syntax.tnil)) (Syntax.ttcons (Syntax.tcons y3 Syntax.tnil) (Syntax.ttcons (Syntax.tcons y1 (Syntax.tcons y2
-    Syntax.tnil)) (Syntax.ttcons (Syntax.tcons y1 (Syntax.tcons y2 Syntax.tnil)) Syntax.ttnil))))
+y4 = Syntax.tyEnum (109 ∷ 101 ∷ 116 ∷ 101 ∷ 114 ∷ 58 ∷ 58 ∷ 78 ∷ 101 ∷ 120 ∷ 116 ∷ []) (Syntax.ttcons (Syntax.tcons y1 (Syntax.tcons y2
+    Syntax.tnil)) (Syntax.ttcons (Syntax.tcons y3 Syntax.tnil) (Syntax.ttcons (Syntax.tcons y1 (Syntax.tcons y2 Syntax.tnil))
+    (Syntax.ttcons (Syntax.tcons y1 (Syntax.tcons y2 Syntax.tnil)) Syntax.ttnil))))
 
 abbrev y5 : Syntax.Ty
 y5 = Syntax.tyInt Syntax.w32
@@ -236,8 +236,8 @@ abbrev y53 : Row.Entry
 y53 = (0, Rows.whole (Declared.row Answer.the-type))
 
 abbrev y54 : Syntax.Ty
-y54 = Syntax.tyStruct (99 ∷ 111 ∷ 110 ∷ 116 ∷ 101 ∷ 120 ∷ 116 ∷ 58 ∷ 58 ∷ 76 ∷ 105 ∷ 109 ∷ 105 ∷ 116 ∷ 115 ∷ []) (Syntax.tcons y0
-    (Syntax.tcons y0 (Syntax.tcons y0 (Syntax.tcons y0 Syntax.tnil))))
+y54 = Syntax.tyStruct (109 ∷ 101 ∷ 116 ∷ 101 ∷ 114 ∷ 58 ∷ 58 ∷ 76 ∷ 105 ∷ 109 ∷ 105 ∷ 116 ∷ 115 ∷ []) (Syntax.tcons y0 (Syntax.tcons y0
+    (Syntax.tcons y0 (Syntax.tcons y0 Syntax.tnil))))
 
 abbrev y55 : Row.Entry
 y55 = (5, Rows.any-gone y54)
@@ -716,9 +716,9 @@ b7 = Syntax.assign (Syntax.place 23 []) (Syntax.aggregate ((Syntax.copy (Syntax.
     ((Syntax.field 1) ∷ []))) ∷ []))
 
 abbrev b8 : Syntax.Body
-b8 = Syntax.call "rules::turn" ((Syntax.copy (Syntax.place 19 [])) ∷ (Syntax.copy (Syntax.place 21 [])) ∷ (Syntax.copy (Syntax.place 23
-    [])) ∷ (Syntax.copy (Syntax.place 4 [])) ∷ (Syntax.copy (Syntax.place 5 [])) ∷ (Syntax.copy (Syntax.place 8 [])) ∷ (Syntax.copy
-    (Syntax.place 9 [])) ∷ []) (Syntax.place 17 [])
+b8 = Syntax.call "search_left::turn" ((Syntax.copy (Syntax.place 19 [])) ∷ (Syntax.copy (Syntax.place 21 [])) ∷ (Syntax.copy
+    (Syntax.place 23 [])) ∷ (Syntax.copy (Syntax.place 4 [])) ∷ (Syntax.copy (Syntax.place 5 [])) ∷ (Syntax.copy (Syntax.place 8 [])) ∷
+    (Syntax.copy (Syntax.place 9 [])) ∷ []) (Syntax.place 17 [])
 
 abbrev b9 : Syntax.Body
 b9 = Syntax.assign (Syntax.place 10 []) (Syntax.rvOpd (Syntax.copy (Syntax.place 17 ((Syntax.variant 0) ∷ (Syntax.field 1) ∷ []))))
@@ -1764,9 +1764,9 @@ module _ (claims· : Claims) where
     module _ (M : Type 1) where
       abbrev pub Closed : Type 2
       Closed = (𝓤 : URA.URA M) (H : Wp.Heap 𝓤) (A : Atoms.Atoms 𝓤) (W : Kit.Given 𝓤 H A) (𝓣 : Wp.Tables 𝓤 H) (known0 : Plain.Known 𝓤 H A
-          W 𝓣 4 ps·0 r·0 (claims· .0) (claims· .1) "rules::turn") (known1 : Plain.Known 𝓤 H A W 𝓣 4 ps·1 r·1 (claims· .2) (claims· .3)
-          "prove::left_or") (known2 : Plain.Known 𝓤 H A W 𝓣 4 ps·2 r·2 (claims· .4) (claims· .5) "prove::search") → Statement.Triple 𝓤
-          (Wp.WpFn 𝓤 H (𝓣 .C) (𝓣 .Λ) (Function.fnOf 4 ps r xs m hs body)) (Function.plainOf 𝓤 H A 4 ps r Pre· Post·)
+          W 𝓣 4 ps·0 r·0 (claims· .0) (claims· .1) "search_left::turn") (known1 : Plain.Known 𝓤 H A W 𝓣 4 ps·1 r·1 (claims· .2) (claims·
+          .3) "prove::left_or") (known2 : Plain.Known 𝓤 H A W 𝓣 4 ps·2 r·2 (claims· .4) (claims· .5) "prove::search") → Statement.Triple
+          𝓤 (Wp.WpFn 𝓤 H (𝓣 .C) (𝓣 .Λ) (Function.fnOf 4 ps r xs m hs body)) (Function.plainOf 𝓤 H A 4 ps r Pre· Post·)
 
     module _ (Inv·0 : InvT-loop) (μ·0 : MeasureT-loop) where
       abbrev at0 : Typed.TF T38 O3
@@ -2109,8 +2109,8 @@ module _ (claims· : Claims) where
 
       module _ {M : Type 1} (𝓤 : URA.URA M) (H : Wp.Heap 𝓤) (A : Atoms.Atoms 𝓤) (W : Kit.Given 𝓤 H A) (𝓣 : Wp.Tables 𝓤 H) where
         abbrev Knowns : Type 1
-        Knowns = Plain.Known 𝓤 H A W 𝓣 4 ps·0 r·0 (claims· .0) (claims· .1) "rules::turn" × Plain.Known 𝓤 H A W 𝓣 4 ps·1 r·1 (claims·
-            .2) (claims· .3) "prove::left_or" × Plain.Known 𝓤 H A W 𝓣 4 ps·2 r·2 (claims· .4) (claims· .5) "prove::search"
+        Knowns = Plain.Known 𝓤 H A W 𝓣 4 ps·0 r·0 (claims· .0) (claims· .1) "search_left::turn" × Plain.Known 𝓤 H A W 𝓣 4 ps·1 r·1
+            (claims· .2) (claims· .3) "prove::left_or" × Plain.Known 𝓤 H A W 𝓣 4 ps·2 r·2 (claims· .4) (claims· .5) "prove::search"
 
       module _ (κs : Lifetimes.Lfts 4) (qs : Lifetimes.Shares 4) where
         abbrev g8 : List.List Row.Entry
@@ -3756,7 +3756,7 @@ module _ (claims· : Claims) where
 
           d90 : Typed.Typed 𝓤 H A 𝓣 E G17 b60 Δ3 at90
           d90 = Typed.s-seq 𝓤 H A W 𝓣 E G17 G18 b8 b59 Δ3 (Typed.both s16) at89 (Plain.t-call-plain 𝓤 H A W 𝓣 4 ps·0 r·0 (claims· .0)
-              (claims· .1) "rules::turn" (known .0) E (λ pos β. β) G17 (
+              (claims· .1) "search_left::turn" (known .0) E (λ pos β. β) G17 (
                 record
                     { pos = 19; ty = Syntax.tyRef Syntax.erased Syntax.mut y5; ref = λ x. x },
                 (
@@ -4112,31 +4112,32 @@ module _ (claims· : Claims) where
 
       module _ (κs : Lifetimes.Lfts 4) where
         pub record Args : Type 0 where
-          pub f : Kinds.Den {n = 4} κs (MutSlice.pMutS (Referent.rtF (Referent.fInt Syntax.w32)) 0 tt)
-          pub t : Kinds.Den {n = 4} κs (MutSlice.pMutS (Referent.rtF (Referent.fInt Syntax.w16)) 1 tt)
-          pub w : Kinds.Den {n = 4} κs (MutSlice.pMutS Element.row 2 tt)
-          pub k : Kinds.Den {n = 4} κs (ShrSlice.pShrS (Referent.rtF (Referent.fInt Syntax.w8)) 3 tt)
-          pub m : Kinds.Den {n = 4} κs (Value.pVal record {
+          pub words : Kinds.Den {n = 4} κs (MutSlice.pMutS (Referent.rtF (Referent.fInt Syntax.w32)) 0 tt)
+          pub terms : Kinds.Den {n = 4} κs (MutSlice.pMutS (Referent.rtF (Referent.fInt Syntax.w16)) 1 tt)
+          pub work : Kinds.Den {n = 4} κs (MutSlice.pMutS Element.row 2 tt)
+          pub names : Kinds.Den {n = 4} κs (ShrSlice.pShrS (Referent.rtF (Referent.fInt Syntax.w8)) 3 tt)
+          pub limits : Kinds.Den {n = 4} κs (Value.pVal record {
             ty = Declared'.row Limits.the-type;
             one = Path'.refl;
-            val = Laws'6.val
-                Limits.the-type Laws'.the-laws;
+            val =
+                Laws'6.val Limits.the-type Laws'.the-laws;
             tells = Laws'6.tells Limits.the-type Laws'.the-laws;
-            still = Laws'6.still Limits.the-type
-                Laws'.the-copy Exit.yes;
+            still = Laws'6.still
+                Limits.the-type Laws'.the-copy Exit.yes;
             row = Rows.whole (Declared'.row Limits.the-type);
             rd = λ x. x;
             mk = λ x. x;
-          } λ M 𝓤 H A W. record {
-            copies = Laws'6.copy Limits.the-type Laws'.the-copy 𝓤 H A W;
-            lawful = Laws'6.lawful Limits.the-type Laws'.the-laws 𝓤 H A
-                W;
-            makes = Laws'6.makes Limits.the-type Laws'.the-plain 𝓤 H A;
-            in-mem = Local.mem-whole 𝓤 H A W (Declared'.row
-                Limits.the-type);
-            of-mem = Local.whole-mem 𝓤 H A W (Declared'.row Limits.the-type);
-          })
-          pub st : Kinds.Den {n = 4} κs (Value.pVal record {
+          } λ M
+              𝓤 H A W. record {
+                copies = Laws'6.copy Limits.the-type Laws'.the-copy 𝓤 H A W;
+                lawful = Laws'6.lawful Limits.the-type
+                    Laws'.the-laws 𝓤 H A W;
+                makes = Laws'6.makes Limits.the-type Laws'.the-plain 𝓤 H A;
+                in-mem = Local.mem-whole 𝓤 H A W
+                    (Declared'.row Limits.the-type);
+                of-mem = Local.whole-mem 𝓤 H A W (Declared'.row Limits.the-type);
+              })
+          pub state : Kinds.Den {n = 4} κs (Value.pVal record {
             ty = Declared'.row State.the-type;
             one = Path'.refl;
             val = Laws'6.val
@@ -4156,11 +4157,11 @@ module _ (claims· : Claims) where
                 State.the-type);
             of-mem = Local.whole-mem 𝓤 H A W (Declared'.row State.the-type);
           })
-          pub q : Kinds.Den {n = 4} κs (Value.pVal record {
+          pub sequent : Kinds.Den {n = 4} κs (Value.pVal record {
             ty = Declared'.row Sequent.the-type;
             one = Path'.refl;
-            val = Laws'6.val
-                Sequent.the-type Laws'3.the-laws;
+            val =
+                Laws'6.val Sequent.the-type Laws'3.the-laws;
             tells = Laws'6.tells Sequent.the-type Laws'3.the-laws;
             still = Laws'6.still
                 Sequent.the-type Laws'3.the-copy Exit.yes;
@@ -4179,7 +4180,7 @@ module _ (claims· : Claims) where
               })
 
         abbrev pub dens : (a : Args) → Kinds.Dens κs ps
-        dens = λ a. (a .f, (a .t, (a .w, (a .k, (a .m, (a .st, (a .q, tt)))))))
+        dens = λ a. (a .words, (a .terms, (a .work, (a .names, (a .limits, (a .state, (a .sequent, tt)))))))
 
       abbrev pub m0 : (κs : Lifetimes.Lfts 4) → (args : Args κs) → Typed.Mo T0
       m0 = λ κs args. (tt, Enter.partsP κs 1 ps xs (dens κs args))
@@ -4267,46 +4268,46 @@ module _ (claims· : Claims) where
           (T8 .locals) (m7 (c .before) (c .shared-slice-known .given)) .now) (Row.get 8 (T8 .locals) (m7 (c .before) (c
           .shared-slice-known .given))) (Row.get 9 (T8 .locals) (m7 (c .before) (c .shared-slice-known .given)))
 
-      abbrev pub m8 : (before : After-shared-slice-known) → (f : List.List (Referent.rtF (Referent.fInt Syntax.w32) .Denot)) → (t :
-          List.List (Referent.rtF (Referent.fInt Syntax.w16) .Denot)) → (w : List.List (Element.row .Denot)) → (s : Rows.whole
-          (Declared'.row State.the-type) .Mod) → (p : Rows.whole (Declared'.row Sequent.the-type) .Mod) → Typed.Mo T8
-      m8 = λ before f t w s p. Row.set 9 y59 p (Row.setRow 8 y58 (Row.setRow 3 y19 (Row.setRow 2 y17 (Row.setRow 1 y15 (T8 .locals)))))
-          (Row.set 8 y58 s (Row.setRow 3 y19 (Row.setRow 2 y17 (Row.setRow 1 y15 (T8 .locals)))) (Row.set 3 y19 record {
-            ptr = Row.get 3
-                (T8 .locals) (m7 (before .before) (before .shared-slice-known .given)) .ptr;
-            name = Row.get 3 (T8 .locals) (m7 (before
-                .before) (before .shared-slice-known .given)) .name;
-            now = w;
-          } (Row.setRow 2 y17 (Row.setRow 1 y15 (T8 .locals))) (Row.set 2
-          y17 record {
-            ptr = Row.get 2 (T8 .locals) (m7 (before .before) (before .shared-slice-known .given)) .ptr;
-            name = Row.get 2 (T8
-                .locals) (m7 (before .before) (before .shared-slice-known .given)) .name;
-            now = t;
-          } (Row.setRow 1 y15 (T8 .locals)) (Row.set 1
-          y15 record {
-            ptr = Row.get 1 (T8 .locals) (m7 (before .before) (before .shared-slice-known .given)) .ptr;
-            name = Row.get 1 (T8
-                .locals) (m7 (before .before) (before .shared-slice-known .given)) .name;
-            now = f;
-          } (T8 .locals) (m7 (before .before) (before
-          .shared-slice-known .given))))))
+      abbrev pub m8 : (before : After-shared-slice-known) → (words : List.List (Referent.rtF (Referent.fInt Syntax.w32) .Denot)) →
+          (terms : List.List (Referent.rtF (Referent.fInt Syntax.w16) .Denot)) → (work : List.List (Element.row .Denot)) → (s :
+          Rows.whole (Declared'.row State.the-type) .Mod) → (p : Rows.whole (Declared'.row Sequent.the-type) .Mod) → Typed.Mo T8
+      m8 = λ before words terms work s p. Row.set 9 y59 p (Row.setRow 8 y58 (Row.setRow 3 y19 (Row.setRow 2 y17 (Row.setRow 1 y15 (T8
+          .locals))))) (Row.set 8 y58 s (Row.setRow 3 y19 (Row.setRow 2 y17 (Row.setRow 1 y15 (T8 .locals)))) (Row.set 3 y19 record {
+            ptr = Row.get 3 (T8 .locals) (m7 (before .before) (before .shared-slice-known .given)) .ptr;
+            name = Row.get 3 (T8 .locals)
+                (m7 (before .before) (before .shared-slice-known .given)) .name;
+            now = work;
+          } (Row.setRow 2 y17 (Row.setRow 1 y15 (T8
+          .locals))) (Row.set 2 y17 record {
+            ptr = Row.get 2 (T8 .locals) (m7 (before .before) (before .shared-slice-known .given))
+                .ptr;
+            name = Row.get 2 (T8 .locals) (m7 (before .before) (before .shared-slice-known .given)) .name;
+            now = terms;
+          } (Row.setRow
+          1 y15 (T8 .locals)) (Row.set 1 y15 record {
+            ptr = Row.get 1 (T8 .locals) (m7 (before .before) (before .shared-slice-known
+                .given)) .ptr;
+            name = Row.get 1 (T8 .locals) (m7 (before .before) (before .shared-slice-known .given)) .name;
+            now = words;
+          }
+          (T8 .locals) (m7 (before .before) (before .shared-slice-known .given))))))
 
-      abbrev W3 : (before : After-shared-slice-known) → (f : List.List (Referent.rtF (Referent.fInt Syntax.w32) .Denot)) → (t :
-          List.List (Referent.rtF (Referent.fInt Syntax.w16) .Denot)) → (w : List.List (Element.row .Denot)) → (s : Rows.whole
+      abbrev W3 : (before : After-shared-slice-known) → (words : List.List (Referent.rtF (Referent.fInt Syntax.w32) .Denot)) → (terms :
+          List.List (Referent.rtF (Referent.fInt Syntax.w16) .Denot)) → (work : List.List (Element.row .Denot)) → (s : Rows.whole
           (Declared'.row State.the-type) .Mod) → (p : Rows.whole (Declared'.row Sequent.the-type) .Mod) → Typed.Want O3
-      W3 = λ before f t w s p. Typed.inLoop T8 O2 (Typed.Round T8 O2 put0 (λ u vs. Inv·0 (Row.get 1 (T8 .locals) u .now) (Row.get 2 (T8
-          .locals) u .now) (Row.get 3 (T8 .locals) u .now) (Row.get 4 (T8 .locals) u .now) (Row.get 5 (T8 .locals) u) (Row.get 8 (T8
-          .locals) u) (Row.get 9 (T8 .locals) u) (vs .0) (vs .1) (vs .2) (vs .3) (vs .4)) (λ u vs. μ·0 (Row.get 1 (T8 .locals) u .now)
+      W3 = λ before words terms work s p. Typed.inLoop T8 O2 (Typed.Round T8 O2 put0 (λ u vs. Inv·0 (Row.get 1 (T8 .locals) u .now)
           (Row.get 2 (T8 .locals) u .now) (Row.get 3 (T8 .locals) u .now) (Row.get 4 (T8 .locals) u .now) (Row.get 5 (T8 .locals) u)
-          (Row.get 8 (T8 .locals) u) (Row.get 9 (T8 .locals) u) (vs .0) (vs .1) (vs .2) (vs .3) (vs .4)) at99 (m7 (before .before)
-          (before .shared-slice-known .given)) (f, t, w, s, p)) (W2 (before .before) (before .shared-slice-known .given))
+          (Row.get 8 (T8 .locals) u) (Row.get 9 (T8 .locals) u) (vs .0) (vs .1) (vs .2) (vs .3) (vs .4)) (λ u vs. μ·0 (Row.get 1 (T8
+          .locals) u .now) (Row.get 2 (T8 .locals) u .now) (Row.get 3 (T8 .locals) u .now) (Row.get 4 (T8 .locals) u .now) (Row.get 5
+          (T8 .locals) u) (Row.get 8 (T8 .locals) u) (Row.get 9 (T8 .locals) u) (vs .0) (vs .1) (vs .2) (vs .3) (vs .4)) at99 (m7
+          (before .before) (before .shared-slice-known .given)) (words, terms, work, s, p)) (W2 (before .before) (before
+          .shared-slice-known .given))
 
       module _ (before· : After-shared-slice-known) where
         pub record At-loop·own : Type 0 where
-          pub f : List.List (Referent.rtF (Referent.fInt Syntax.w32) .Denot)
-          pub t : List.List (Referent.rtF (Referent.fInt Syntax.w16) .Denot)
-          pub w : List.List (Element.row .Denot)
+          pub words : List.List (Referent.rtF (Referent.fInt Syntax.w32) .Denot)
+          pub terms : List.List (Referent.rtF (Referent.fInt Syntax.w16) .Denot)
+          pub work : List.List (Element.row .Denot)
           pub s : Rows.whole (Declared'.row State.the-type) .Mod
           pub p : Rows.whole (Declared'.row Sequent.the-type) .Mod
           pub inv : Inv·0 (Row.get 1 (T8 .locals) (m7 (before· .before) (before· .shared-slice-known .given)) .now) (Row.get 2 (T8
@@ -4314,25 +4315,25 @@ module _ (claims· : Claims) where
               (before· .shared-slice-known .given)) .now) (Row.get 4 (T8 .locals) (m7 (before· .before) (before· .shared-slice-known
               .given)) .now) (Row.get 5 (T8 .locals) (m7 (before· .before) (before· .shared-slice-known .given))) (Row.get 8 (T8
               .locals) (m7 (before· .before) (before· .shared-slice-known .given))) (Row.get 9 (T8 .locals) (m7 (before· .before)
-              (before· .shared-slice-known .given))) f t w s p
+              (before· .shared-slice-known .given))) words terms work s p
 
       pub record At-loop : Type 0 where
         pub before : After-shared-slice-known
         pub loop : At-loop·own before
 
-      abbrev pub m9 : (before : At-loop) → (given : s8 .gives (m8 (before .before) (before .loop .f) (before .loop .t) (before .loop .w)
-          (before .loop .s) (before .loop .p))) → Typed.Mo T10
-      m9 = λ before given. s8 .next (m8 (before .before) (before .loop .f) (before .loop .t) (before .loop .w) (before .loop .s) (before
-          .loop .p)) given
+      abbrev pub m9 : (before : At-loop) → (given : s8 .gives (m8 (before .before) (before .loop .words) (before .loop .terms) (before
+          .loop .work) (before .loop .s) (before .loop .p))) → Typed.Mo T10
+      m9 = λ before given. s8 .next (m8 (before .before) (before .loop .words) (before .loop .terms) (before .loop .work) (before .loop
+          .s) (before .loop .p)) given
 
-      abbrev pub m10 : (before : At-loop) → (given : s8 .gives (m8 (before .before) (before .loop .f) (before .loop .t) (before .loop
-          .w) (before .loop .s) (before .loop .p))) → Typed.Mo T11
+      abbrev pub m10 : (before : At-loop) → (given : s8 .gives (m8 (before .before) (before .loop .words) (before .loop .terms) (before
+          .loop .work) (before .loop .s) (before .loop .p))) → Typed.Mo T11
       m10 = λ before given. s9 .next (m9 before given)
 
       module _ (before· : At-loop) where
         pub record After-turn-arg·own : Type 0 where
-          pub given : s8 .gives (m8 (before· .before) (before· .loop .f) (before· .loop .t) (before· .loop .w) (before· .loop .s)
-              (before· .loop .p))
+          pub given : s8 .gives (m8 (before· .before) (before· .loop .words) (before· .loop .terms) (before· .loop .work) (before· .loop
+              .s) (before· .loop .p))
 
       pub record After-turn-arg : Type 0 where
         pub before : At-loop
@@ -4440,22 +4441,22 @@ module _ (claims· : Claims) where
       m18 = λ before given. s20 .next (m17 (before .before) (After-turn·gave before)) given
 
       module _ (before· : After-turn) where
-        pub record After-f·own : Type 0 where
+        pub record After-words·own : Type 0 where
           pub given : s20 .gives (m17 (before· .before) (After-turn·gave before·))
 
-      pub record After-f : Type 0 where
+      pub record After-words : Type 0 where
         pub before : After-turn
-        pub f : After-f·own before
+        pub words : After-words·own before
 
-      abbrev pub m19 : (before : After-f) → (given : s21 .gives (m18 (before .before) (before .f .given))) → Typed.Mo T23
-      m19 = λ before given. s21 .next (m18 (before .before) (before .f .given)) given
+      abbrev pub m19 : (before : After-words) → (given : s21 .gives (m18 (before .before) (before .words .given))) → Typed.Mo T23
+      m19 = λ before given. s21 .next (m18 (before .before) (before .words .given)) given
 
-      module _ (before· : After-f) where
+      module _ (before· : After-words) where
         pub record After-slice-known3·own : Type 0 where
-          pub given : s21 .gives (m18 (before· .before) (before· .f .given))
+          pub given : s21 .gives (m18 (before· .before) (before· .words .given))
 
       pub record After-slice-known3 : Type 0 where
-        pub before : After-f
+        pub before : After-words
         pub slice-known3 : After-slice-known3·own before
 
       abbrev pub m20 : (before : After-slice-known3) → (given : s24 .gives (m19 (before .before) (before .slice-known3 .given))) →
@@ -4463,22 +4464,22 @@ module _ (claims· : Claims) where
       m20 = λ before given. s24 .next (m19 (before .before) (before .slice-known3 .given)) given
 
       module _ (before· : After-slice-known3) where
-        pub record After-t·own : Type 0 where
+        pub record After-terms·own : Type 0 where
           pub given : s24 .gives (m19 (before· .before) (before· .slice-known3 .given))
 
-      pub record After-t : Type 0 where
+      pub record After-terms : Type 0 where
         pub before : After-slice-known3
-        pub t : After-t·own before
+        pub terms : After-terms·own before
 
-      abbrev pub m21 : (before : After-t) → (given : s25 .gives (m20 (before .before) (before .t .given))) → Typed.Mo T27
-      m21 = λ before given. s25 .next (m20 (before .before) (before .t .given)) given
+      abbrev pub m21 : (before : After-terms) → (given : s25 .gives (m20 (before .before) (before .terms .given))) → Typed.Mo T27
+      m21 = λ before given. s25 .next (m20 (before .before) (before .terms .given)) given
 
-      module _ (before· : After-t) where
+      module _ (before· : After-terms) where
         pub record After-slice-known4·own : Type 0 where
-          pub given : s25 .gives (m20 (before· .before) (before· .t .given))
+          pub given : s25 .gives (m20 (before· .before) (before· .terms .given))
 
       pub record After-slice-known4 : Type 0 where
-        pub before : After-t
+        pub before : After-terms
         pub slice-known4 : After-slice-known4·own before
 
       abbrev pub m22 : (before : After-slice-known4) → (given : s28 .gives (m21 (before .before) (before .slice-known4 .given))) →
@@ -4486,32 +4487,32 @@ module _ (claims· : Claims) where
       m22 = λ before given. s28 .next (m21 (before .before) (before .slice-known4 .given)) given
 
       module _ (before· : After-slice-known4) where
-        pub record After-w·own : Type 0 where
+        pub record After-work·own : Type 0 where
           pub given : s28 .gives (m21 (before· .before) (before· .slice-known4 .given))
 
-      pub record After-w : Type 0 where
+      pub record After-work : Type 0 where
         pub before : After-slice-known4
-        pub w : After-w·own before
+        pub work : After-work·own before
 
-      module _ (before· : After-w) where
+      module _ (before· : After-work) where
         pub record At-match-keys1·own : Type 0 where
-          pub keys1 : Run.OneOf (0 ∷ []) (Declared.tagOf Next.the-type (Row.get 17 (T30 .locals) (m22 (before· .before) (before· .w
+          pub keys1 : Run.OneOf (0 ∷ []) (Declared.tagOf Next.the-type (Row.get 17 (T30 .locals) (m22 (before· .before) (before· .work
               .given))))
 
       pub record At-match-keys1 : Type 0 where
-        pub before : After-w
+        pub before : After-work
         pub match : At-match-keys1·own before
 
       abbrev pub Need-enum-known-s1 : Type 0
-      Need-enum-known-s1 = (c : At-match-keys1) → s30 .asks (m22 (c .before .before) (c .before .w .given))
+      Need-enum-known-s1 = (c : At-match-keys1) → s30 .asks (m22 (c .before .before) (c .before .work .given))
 
-      abbrev pub m23 : (before : At-match-keys1) → (given : s30 .gives (m22 (before .before .before) (before .before .w .given))) →
+      abbrev pub m23 : (before : At-match-keys1) → (given : s30 .gives (m22 (before .before .before) (before .before .work .given))) →
           Typed.Mo T32
-      m23 = λ before given. s30 .next (m22 (before .before .before) (before .before .w .given)) given
+      m23 = λ before given. s30 .next (m22 (before .before .before) (before .before .work .given)) given
 
       module _ (before· : At-match-keys1) where
         pub record After-s1·own : Type 0 where
-          pub given : s30 .gives (m22 (before· .before .before) (before· .before .w .given))
+          pub given : s30 .gives (m22 (before· .before .before) (before· .before .work .given))
 
       pub record After-s1 : Type 0 where
         pub before : At-match-keys1
@@ -4586,10 +4587,11 @@ module _ (claims· : Claims) where
           .shared-slice-known .given))) (Row.get 9 (T8 .locals) (m7 (c .before .before .before .before .before .before .before .before
           .before .before .before .before .before .before) (c .before .before .before .before .before .before .before .before .before
           .before .before .before .before .shared-slice-known .given))) (c .before .before .before .before .before .before .before
-          .before .before .before .before .before .loop .f) (c .before .before .before .before .before .before .before .before .before
-          .before .before .before .loop .t) (c .before .before .before .before .before .before .before .before .before .before .before
-          .before .loop .w) (c .before .before .before .before .before .before .before .before .before .before .before .before .loop .s)
-          (c .before .before .before .before .before .before .before .before .before .before .before .before .loop .p))
+          .before .before .before .before .before .loop .words) (c .before .before .before .before .before .before .before .before
+          .before .before .before .before .loop .terms) (c .before .before .before .before .before .before .before .before .before
+          .before .before .before .loop .work) (c .before .before .before .before .before .before .before .before .before .before
+          .before .before .loop .s) (c .before .before .before .before .before .before .before .before .before .before .before .before
+          .loop .p))
 
       abbrev pub Need-loop-again : Type 0
       Need-loop-again = (c : After-known-told) → Inv·0 (Row.get 1 (T8 .locals) (m7 (c .before .before .before .before .before .before
@@ -4613,25 +4615,25 @@ module _ (claims· : Claims) where
           .known-told .given)) .now) (Row.get 8 (T8 .locals) (m31 (c .before) (c .known-told .given))) (Row.get 9 (T8 .locals) (m31 (c
           .before) (c .known-told .given)))
 
-      module _ (before· : After-w) where
+      module _ (before· : After-work) where
         pub record At-match-keys2·own : Type 0 where
-          pub keys2 : Run.OneOf (1 ∷ []) (Declared.tagOf Next.the-type (Row.get 17 (T30 .locals) (m22 (before· .before) (before· .w
+          pub keys2 : Run.OneOf (1 ∷ []) (Declared.tagOf Next.the-type (Row.get 17 (T30 .locals) (m22 (before· .before) (before· .work
               .given))))
 
       pub record At-match-keys2 : Type 0 where
-        pub before : After-w
+        pub before : After-work
         pub match : At-match-keys2·own before
 
       abbrev pub Need-enum-known-a : Type 0
-      Need-enum-known-a = (c : At-match-keys2) → s39 .asks (m22 (c .before .before) (c .before .w .given))
+      Need-enum-known-a = (c : At-match-keys2) → s39 .asks (m22 (c .before .before) (c .before .work .given))
 
-      abbrev pub m32 : (before : At-match-keys2) → (given : s39 .gives (m22 (before .before .before) (before .before .w .given))) →
+      abbrev pub m32 : (before : At-match-keys2) → (given : s39 .gives (m22 (before .before .before) (before .before .work .given))) →
           Typed.Mo T41
-      m32 = λ before given. s39 .next (m22 (before .before .before) (before .before .w .given)) given
+      m32 = λ before given. s39 .next (m22 (before .before .before) (before .before .work .given)) given
 
       module _ (before· : At-match-keys2) where
         pub record After-a·own : Type 0 where
-          pub given : s39 .gives (m22 (before· .before .before) (before· .before .w .given))
+          pub given : s39 .gives (m22 (before· .before .before) (before· .before .work .given))
 
       pub record After-a : Type 0 where
         pub before : At-match-keys2
@@ -4696,25 +4698,25 @@ module _ (claims· : Claims) where
           .before .before .before .before .before .before .before .κs) (c .before .before .before .before .before .before .before
           .before .before .before .before .before .before .before .before .before .args)) (m38 (c .before) (c .known-told2 .given) .1)))
 
-      module _ (before· : After-w) where
+      module _ (before· : After-work) where
         pub record At-match-keys3·own : Type 0 where
-          pub keys3 : Run.OneOf (2 ∷ []) (Declared.tagOf Next.the-type (Row.get 17 (T30 .locals) (m22 (before· .before) (before· .w
+          pub keys3 : Run.OneOf (2 ∷ []) (Declared.tagOf Next.the-type (Row.get 17 (T30 .locals) (m22 (before· .before) (before· .work
               .given))))
 
       pub record At-match-keys3 : Type 0 where
-        pub before : After-w
+        pub before : After-work
         pub match : At-match-keys3·own before
 
       abbrev pub Need-enum-known-s1-2 : Type 0
-      Need-enum-known-s1-2 = (c : At-match-keys3) → s46 .asks (m22 (c .before .before) (c .before .w .given))
+      Need-enum-known-s1-2 = (c : At-match-keys3) → s46 .asks (m22 (c .before .before) (c .before .work .given))
 
-      abbrev pub m39 : (before : At-match-keys3) → (given : s46 .gives (m22 (before .before .before) (before .before .w .given))) →
+      abbrev pub m39 : (before : At-match-keys3) → (given : s46 .gives (m22 (before .before .before) (before .before .work .given))) →
           Typed.Mo T48
-      m39 = λ before given. s46 .next (m22 (before .before .before) (before .before .w .given)) given
+      m39 = λ before given. s46 .next (m22 (before .before .before) (before .before .work .given)) given
 
       module _ (before· : At-match-keys3) where
         pub record After-s12·own : Type 0 where
-          pub given : s46 .gives (m22 (before· .before .before) (before· .before .w .given))
+          pub given : s46 .gives (m22 (before· .before .before) (before· .before .work .given))
 
       pub record After-s12 : Type 0 where
         pub before : At-match-keys3
@@ -4864,22 +4866,22 @@ module _ (claims· : Claims) where
       m54 = λ before given. s65 .next (m53 (before .before) (After-left-or·gave before)) given
 
       module _ (before· : After-left-or) where
-        pub record After-f2·own : Type 0 where
+        pub record After-words2·own : Type 0 where
           pub given : s65 .gives (m53 (before· .before) (After-left-or·gave before·))
 
-      pub record After-f2 : Type 0 where
+      pub record After-words2 : Type 0 where
         pub before : After-left-or
-        pub f2 : After-f2·own before
+        pub words2 : After-words2·own before
 
-      abbrev pub m55 : (before : After-f2) → (given : s66 .gives (m54 (before .before) (before .f2 .given))) → Typed.Mo T68
-      m55 = λ before given. s66 .next (m54 (before .before) (before .f2 .given)) given
+      abbrev pub m55 : (before : After-words2) → (given : s66 .gives (m54 (before .before) (before .words2 .given))) → Typed.Mo T68
+      m55 = λ before given. s66 .next (m54 (before .before) (before .words2 .given)) given
 
-      module _ (before· : After-f2) where
+      module _ (before· : After-words2) where
         pub record After-slice-known5·own : Type 0 where
-          pub given : s66 .gives (m54 (before· .before) (before· .f2 .given))
+          pub given : s66 .gives (m54 (before· .before) (before· .words2 .given))
 
       pub record After-slice-known5 : Type 0 where
-        pub before : After-f2
+        pub before : After-words2
         pub slice-known5 : After-slice-known5·own before
 
       abbrev pub m56 : (before : After-slice-known5) → (given : s69 .gives (m55 (before .before) (before .slice-known5 .given))) →
@@ -4887,22 +4889,22 @@ module _ (claims· : Claims) where
       m56 = λ before given. s69 .next (m55 (before .before) (before .slice-known5 .given)) given
 
       module _ (before· : After-slice-known5) where
-        pub record After-t2·own : Type 0 where
+        pub record After-terms2·own : Type 0 where
           pub given : s69 .gives (m55 (before· .before) (before· .slice-known5 .given))
 
-      pub record After-t2 : Type 0 where
+      pub record After-terms2 : Type 0 where
         pub before : After-slice-known5
-        pub t2 : After-t2·own before
+        pub terms2 : After-terms2·own before
 
-      abbrev pub m57 : (before : After-t2) → (given : s70 .gives (m56 (before .before) (before .t2 .given))) → Typed.Mo T72
-      m57 = λ before given. s70 .next (m56 (before .before) (before .t2 .given)) given
+      abbrev pub m57 : (before : After-terms2) → (given : s70 .gives (m56 (before .before) (before .terms2 .given))) → Typed.Mo T72
+      m57 = λ before given. s70 .next (m56 (before .before) (before .terms2 .given)) given
 
-      module _ (before· : After-t2) where
+      module _ (before· : After-terms2) where
         pub record After-slice-known6·own : Type 0 where
-          pub given : s70 .gives (m56 (before· .before) (before· .t2 .given))
+          pub given : s70 .gives (m56 (before· .before) (before· .terms2 .given))
 
       pub record After-slice-known6 : Type 0 where
-        pub before : After-t2
+        pub before : After-terms2
         pub slice-known6 : After-slice-known6·own before
 
       abbrev pub m58 : (before : After-slice-known6) → (given : s73 .gives (m57 (before .before) (before .slice-known6 .given))) →
@@ -4910,74 +4912,74 @@ module _ (claims· : Claims) where
       m58 = λ before given. s73 .next (m57 (before .before) (before .slice-known6 .given)) given
 
       module _ (before· : After-slice-known6) where
-        pub record After-w2·own : Type 0 where
+        pub record After-work2·own : Type 0 where
           pub given : s73 .gives (m57 (before· .before) (before· .slice-known6 .given))
 
-      pub record After-w2 : Type 0 where
+      pub record After-work2 : Type 0 where
         pub before : After-slice-known6
-        pub w2 : After-w2·own before
+        pub work2 : After-work2·own before
 
       abbrev pub Need-same-length-4 : Type 0
-      Need-same-length-4 = (c : After-w2) → MutSlice.SameLen (Row.get 1 (T75 .locals) (m58 (c .before) (c .w2 .given))) (dens (c .before
-          .before .before .before .before .before .before .before .before .before .before .before .before .before .before .before
-          .before .before .before .before .before .before .before .before .before .κs) (c .before .before .before .before .before
-          .before .before .before .before .before .before .before .before .before .before .before .before .before .before .before
-          .before .before .before .before .before .args) .0)
-
-      abbrev pub Need-same-length-5 : Type 0
-      Need-same-length-5 = (c : After-w2) → MutSlice.SameLen (Row.get 2 (T75 .locals) (m58 (c .before) (c .w2 .given))) (dens (c .before
-          .before .before .before .before .before .before .before .before .before .before .before .before .before .before .before
-          .before .before .before .before .before .before .before .before .before .κs) (c .before .before .before .before .before
-          .before .before .before .before .before .before .before .before .before .before .before .before .before .before .before
-          .before .before .before .before .before .args) .1 .0)
-
-      abbrev pub Need-same-length-6 : Type 0
-      Need-same-length-6 = (c : After-w2) → MutSlice.SameLen (Row.get 3 (T75 .locals) (m58 (c .before) (c .w2 .given))) (dens (c .before
-          .before .before .before .before .before .before .before .before .before .before .before .before .before .before .before
-          .before .before .before .before .before .before .before .before .before .κs) (c .before .before .before .before .before
-          .before .before .before .before .before .before .before .before .before .before .before .before .before .before .before
-          .before .before .before .before .before .args) .1 .1 .0)
-
-      abbrev pub Need-returns-2 : Type 0
-      Need-returns-2 = (c : After-w2) → Post· (c .before .before .before .before .before .before .before .before .before .before .before
-          .before .before .before .before .before .before .before .before .before .before .before .before .before .before .κs) (dens (c
+      Need-same-length-4 = (c : After-work2) → MutSlice.SameLen (Row.get 1 (T75 .locals) (m58 (c .before) (c .work2 .given))) (dens (c
           .before .before .before .before .before .before .before .before .before .before .before .before .before .before .before
           .before .before .before .before .before .before .before .before .before .before .κs) (c .before .before .before .before
           .before .before .before .before .before .before .before .before .before .before .before .before .before .before .before
-          .before .before .before .before .before .before .args)) (Function.resV r (c .before .before .before .before .before .before
+          .before .before .before .before .before .before .args) .0)
+
+      abbrev pub Need-same-length-5 : Type 0
+      Need-same-length-5 = (c : After-work2) → MutSlice.SameLen (Row.get 2 (T75 .locals) (m58 (c .before) (c .work2 .given))) (dens (c
           .before .before .before .before .before .before .before .before .before .before .before .before .before .before .before
-          .before .before .before .before .κs) (m58 (c .before) (c .w2 .given) .0)) (Clauses.atExit (Kinds.endedOf 4 ps r) (c .before
+          .before .before .before .before .before .before .before .before .before .before .κs) (c .before .before .before .before
           .before .before .before .before .before .before .before .before .before .before .before .before .before .before .before
-          .before .before .before .before .before .before .before .before .before .κs) (dens (c .before .before .before .before .before
+          .before .before .before .before .before .before .args) .1 .0)
+
+      abbrev pub Need-same-length-6 : Type 0
+      Need-same-length-6 = (c : After-work2) → MutSlice.SameLen (Row.get 3 (T75 .locals) (m58 (c .before) (c .work2 .given))) (dens (c
           .before .before .before .before .before .before .before .before .before .before .before .before .before .before .before
-          .before .before .before .before .before .κs) (c .before .before .before .before .before .before .before .before .before
+          .before .before .before .before .before .before .before .before .before .before .κs) (c .before .before .before .before
           .before .before .before .before .before .before .before .before .before .before .before .before .before .before .before
-          .before .args)) (Enter.lastsP (c .before .before .before .before .before .before .before .before .before .before .before
-          .before .before .before .before .before .before .before .before .before .before .before .before .before .before .κs) 1 ps xs
+          .before .before .before .before .before .before .args) .1 .1 .0)
+
+      abbrev pub Need-returns-2 : Type 0
+      Need-returns-2 = (c : After-work2) → Post· (c .before .before .before .before .before .before .before .before .before .before
+          .before .before .before .before .before .before .before .before .before .before .before .before .before .before .before .κs)
           (dens (c .before .before .before .before .before .before .before .before .before .before .before .before .before .before
           .before .before .before .before .before .before .before .before .before .before .before .κs) (c .before .before .before
           .before .before .before .before .before .before .before .before .before .before .before .before .before .before .before
-          .before .before .before .before .before .before .before .args)) (m58 (c .before) (c .w2 .given) .1)))
+          .before .before .before .before .before .before .before .args)) (Function.resV r (c .before .before .before .before .before
+          .before .before .before .before .before .before .before .before .before .before .before .before .before .before .before
+          .before .before .before .before .before .κs) (m58 (c .before) (c .work2 .given) .0)) (Clauses.atExit (Kinds.endedOf 4 ps r) (c
+          .before .before .before .before .before .before .before .before .before .before .before .before .before .before .before
+          .before .before .before .before .before .before .before .before .before .before .κs) (dens (c .before .before .before .before
+          .before .before .before .before .before .before .before .before .before .before .before .before .before .before .before
+          .before .before .before .before .before .before .κs) (c .before .before .before .before .before .before .before .before
+          .before .before .before .before .before .before .before .before .before .before .before .before .before .before .before
+          .before .before .args)) (Enter.lastsP (c .before .before .before .before .before .before .before .before .before .before
+          .before .before .before .before .before .before .before .before .before .before .before .before .before .before .before .κs) 1
+          ps xs (dens (c .before .before .before .before .before .before .before .before .before .before .before .before .before .before
+          .before .before .before .before .before .before .before .before .before .before .before .κs) (c .before .before .before
+          .before .before .before .before .before .before .before .before .before .before .before .before .before .before .before
+          .before .before .before .before .before .before .before .args)) (m58 (c .before) (c .work2 .given) .1)))
 
-      module _ (before· : After-w) where
+      module _ (before· : After-work) where
         pub record At-match-keys4·own : Type 0 where
-          pub keys4 : Run.OneOf (3 ∷ []) (Declared.tagOf Next.the-type (Row.get 17 (T30 .locals) (m22 (before· .before) (before· .w
+          pub keys4 : Run.OneOf (3 ∷ []) (Declared.tagOf Next.the-type (Row.get 17 (T30 .locals) (m22 (before· .before) (before· .work
               .given))))
 
       pub record At-match-keys4 : Type 0 where
-        pub before : After-w
+        pub before : After-work
         pub match : At-match-keys4·own before
 
       abbrev pub Need-enum-known-s1-3 : Type 0
-      Need-enum-known-s1-3 = (c : At-match-keys4) → s75 .asks (m22 (c .before .before) (c .before .w .given))
+      Need-enum-known-s1-3 = (c : At-match-keys4) → s75 .asks (m22 (c .before .before) (c .before .work .given))
 
-      abbrev pub m59 : (before : At-match-keys4) → (given : s75 .gives (m22 (before .before .before) (before .before .w .given))) →
+      abbrev pub m59 : (before : At-match-keys4) → (given : s75 .gives (m22 (before .before .before) (before .before .work .given))) →
           Typed.Mo T77
-      m59 = λ before given. s75 .next (m22 (before .before .before) (before .before .w .given)) given
+      m59 = λ before given. s75 .next (m22 (before .before .before) (before .before .work .given)) given
 
       module _ (before· : At-match-keys4) where
         pub record After-s13·own : Type 0 where
-          pub given : s75 .gives (m22 (before· .before .before) (before· .before .w .given))
+          pub given : s75 .gives (m22 (before· .before .before) (before· .before .work .given))
 
       pub record After-s13 : Type 0 where
         pub before : At-match-keys4
@@ -5127,22 +5129,22 @@ module _ (claims· : Claims) where
       m74 = λ before given. s94 .next (m73 (before .before) (After-search·gave before)) given
 
       module _ (before· : After-search) where
-        pub record After-f3·own : Type 0 where
+        pub record After-words3·own : Type 0 where
           pub given : s94 .gives (m73 (before· .before) (After-search·gave before·))
 
-      pub record After-f3 : Type 0 where
+      pub record After-words3 : Type 0 where
         pub before : After-search
-        pub f3 : After-f3·own before
+        pub words3 : After-words3·own before
 
-      abbrev pub m75 : (before : After-f3) → (given : s95 .gives (m74 (before .before) (before .f3 .given))) → Typed.Mo T97
-      m75 = λ before given. s95 .next (m74 (before .before) (before .f3 .given)) given
+      abbrev pub m75 : (before : After-words3) → (given : s95 .gives (m74 (before .before) (before .words3 .given))) → Typed.Mo T97
+      m75 = λ before given. s95 .next (m74 (before .before) (before .words3 .given)) given
 
-      module _ (before· : After-f3) where
+      module _ (before· : After-words3) where
         pub record After-slice-known7·own : Type 0 where
-          pub given : s95 .gives (m74 (before· .before) (before· .f3 .given))
+          pub given : s95 .gives (m74 (before· .before) (before· .words3 .given))
 
       pub record After-slice-known7 : Type 0 where
-        pub before : After-f3
+        pub before : After-words3
         pub slice-known7 : After-slice-known7·own before
 
       abbrev pub m76 : (before : After-slice-known7) → (given : s98 .gives (m75 (before .before) (before .slice-known7 .given))) →
@@ -5150,22 +5152,22 @@ module _ (claims· : Claims) where
       m76 = λ before given. s98 .next (m75 (before .before) (before .slice-known7 .given)) given
 
       module _ (before· : After-slice-known7) where
-        pub record After-t3·own : Type 0 where
+        pub record After-terms3·own : Type 0 where
           pub given : s98 .gives (m75 (before· .before) (before· .slice-known7 .given))
 
-      pub record After-t3 : Type 0 where
+      pub record After-terms3 : Type 0 where
         pub before : After-slice-known7
-        pub t3 : After-t3·own before
+        pub terms3 : After-terms3·own before
 
-      abbrev pub m77 : (before : After-t3) → (given : s99 .gives (m76 (before .before) (before .t3 .given))) → Typed.Mo T101
-      m77 = λ before given. s99 .next (m76 (before .before) (before .t3 .given)) given
+      abbrev pub m77 : (before : After-terms3) → (given : s99 .gives (m76 (before .before) (before .terms3 .given))) → Typed.Mo T101
+      m77 = λ before given. s99 .next (m76 (before .before) (before .terms3 .given)) given
 
-      module _ (before· : After-t3) where
+      module _ (before· : After-terms3) where
         pub record After-slice-known8·own : Type 0 where
-          pub given : s99 .gives (m76 (before· .before) (before· .t3 .given))
+          pub given : s99 .gives (m76 (before· .before) (before· .terms3 .given))
 
       pub record After-slice-known8 : Type 0 where
-        pub before : After-t3
+        pub before : After-terms3
         pub slice-known8 : After-slice-known8·own before
 
       abbrev pub m78 : (before : After-slice-known8) → (given : s102 .gives (m77 (before .before) (before .slice-known8 .given))) →
@@ -5173,54 +5175,54 @@ module _ (claims· : Claims) where
       m78 = λ before given. s102 .next (m77 (before .before) (before .slice-known8 .given)) given
 
       module _ (before· : After-slice-known8) where
-        pub record After-w3·own : Type 0 where
+        pub record After-work3·own : Type 0 where
           pub given : s102 .gives (m77 (before· .before) (before· .slice-known8 .given))
 
-      pub record After-w3 : Type 0 where
+      pub record After-work3 : Type 0 where
         pub before : After-slice-known8
-        pub w3 : After-w3·own before
+        pub work3 : After-work3·own before
 
       abbrev pub Need-same-length-7 : Type 0
-      Need-same-length-7 = (c : After-w3) → MutSlice.SameLen (Row.get 1 (T104 .locals) (m78 (c .before) (c .w3 .given))) (dens (c
+      Need-same-length-7 = (c : After-work3) → MutSlice.SameLen (Row.get 1 (T104 .locals) (m78 (c .before) (c .work3 .given))) (dens (c
           .before .before .before .before .before .before .before .before .before .before .before .before .before .before .before
           .before .before .before .before .before .before .before .before .before .before .κs) (c .before .before .before .before
           .before .before .before .before .before .before .before .before .before .before .before .before .before .before .before
           .before .before .before .before .before .before .args) .0)
 
       abbrev pub Need-same-length-8 : Type 0
-      Need-same-length-8 = (c : After-w3) → MutSlice.SameLen (Row.get 2 (T104 .locals) (m78 (c .before) (c .w3 .given))) (dens (c
+      Need-same-length-8 = (c : After-work3) → MutSlice.SameLen (Row.get 2 (T104 .locals) (m78 (c .before) (c .work3 .given))) (dens (c
           .before .before .before .before .before .before .before .before .before .before .before .before .before .before .before
           .before .before .before .before .before .before .before .before .before .before .κs) (c .before .before .before .before
           .before .before .before .before .before .before .before .before .before .before .before .before .before .before .before
           .before .before .before .before .before .before .args) .1 .0)
 
       abbrev pub Need-same-length-9 : Type 0
-      Need-same-length-9 = (c : After-w3) → MutSlice.SameLen (Row.get 3 (T104 .locals) (m78 (c .before) (c .w3 .given))) (dens (c
+      Need-same-length-9 = (c : After-work3) → MutSlice.SameLen (Row.get 3 (T104 .locals) (m78 (c .before) (c .work3 .given))) (dens (c
           .before .before .before .before .before .before .before .before .before .before .before .before .before .before .before
           .before .before .before .before .before .before .before .before .before .before .κs) (c .before .before .before .before
           .before .before .before .before .before .before .before .before .before .before .before .before .before .before .before
           .before .before .before .before .before .before .args) .1 .1 .0)
 
       abbrev pub Need-returns-3 : Type 0
-      Need-returns-3 = (c : After-w3) → Post· (c .before .before .before .before .before .before .before .before .before .before .before
-          .before .before .before .before .before .before .before .before .before .before .before .before .before .before .κs) (dens (c
-          .before .before .before .before .before .before .before .before .before .before .before .before .before .before .before
-          .before .before .before .before .before .before .before .before .before .before .κs) (c .before .before .before .before
-          .before .before .before .before .before .before .before .before .before .before .before .before .before .before .before
-          .before .before .before .before .before .before .args)) (Function.resV r (c .before .before .before .before .before .before
-          .before .before .before .before .before .before .before .before .before .before .before .before .before .before .before
-          .before .before .before .before .κs) (m78 (c .before) (c .w3 .given) .0)) (Clauses.atExit (Kinds.endedOf 4 ps r) (c .before
-          .before .before .before .before .before .before .before .before .before .before .before .before .before .before .before
-          .before .before .before .before .before .before .before .before .before .κs) (dens (c .before .before .before .before .before
-          .before .before .before .before .before .before .before .before .before .before .before .before .before .before .before
-          .before .before .before .before .before .κs) (c .before .before .before .before .before .before .before .before .before
-          .before .before .before .before .before .before .before .before .before .before .before .before .before .before .before
-          .before .args)) (Enter.lastsP (c .before .before .before .before .before .before .before .before .before .before .before
-          .before .before .before .before .before .before .before .before .before .before .before .before .before .before .κs) 1 ps xs
+      Need-returns-3 = (c : After-work3) → Post· (c .before .before .before .before .before .before .before .before .before .before
+          .before .before .before .before .before .before .before .before .before .before .before .before .before .before .before .κs)
           (dens (c .before .before .before .before .before .before .before .before .before .before .before .before .before .before
           .before .before .before .before .before .before .before .before .before .before .before .κs) (c .before .before .before
           .before .before .before .before .before .before .before .before .before .before .before .before .before .before .before
-          .before .before .before .before .before .before .before .args)) (m78 (c .before) (c .w3 .given) .1)))
+          .before .before .before .before .before .before .before .args)) (Function.resV r (c .before .before .before .before .before
+          .before .before .before .before .before .before .before .before .before .before .before .before .before .before .before
+          .before .before .before .before .before .κs) (m78 (c .before) (c .work3 .given) .0)) (Clauses.atExit (Kinds.endedOf 4 ps r) (c
+          .before .before .before .before .before .before .before .before .before .before .before .before .before .before .before
+          .before .before .before .before .before .before .before .before .before .before .κs) (dens (c .before .before .before .before
+          .before .before .before .before .before .before .before .before .before .before .before .before .before .before .before
+          .before .before .before .before .before .before .κs) (c .before .before .before .before .before .before .before .before
+          .before .before .before .before .before .before .before .before .before .before .before .before .before .before .before
+          .before .before .args)) (Enter.lastsP (c .before .before .before .before .before .before .before .before .before .before
+          .before .before .before .before .before .before .before .before .before .before .before .before .before .before .before .κs) 1
+          ps xs (dens (c .before .before .before .before .before .before .before .before .before .before .before .before .before .before
+          .before .before .before .before .before .before .before .before .before .before .before .κs) (c .before .before .before
+          .before .before .before .before .before .before .before .before .before .before .before .before .before .before .before
+          .before .before .before .before .before .before .before .args)) (m78 (c .before) (c .work3 .given) .1)))
 
       module _ (loop-holds : Need-loop-holds) (turn-requires : Need-turn-requires) (enum-known-s1 : Need-enum-known-s1) (loop-less :
           Need-loop-less) (loop-again : Need-loop-again) (enum-known-a : Need-enum-known-a) (same-length : Need-same-length)
@@ -5231,12 +5233,12 @@ module _ (claims· : Claims) where
           (same-length-9 : Need-same-length-9) (returns-3 : Need-returns-3) where
         lay3 : (c : After-search) → at60 (W3 (c .before .before .before .before .before .before .before .before .before .before .before
             .before .before .before .before .before .before) (c .before .before .before .before .before .before .before .before .before
-            .before .before .before .before .before .before .before .loop .f) (c .before .before .before .before .before .before .before
-            .before .before .before .before .before .before .before .before .before .loop .t) (c .before .before .before .before .before
-            .before .before .before .before .before .before .before .before .before .before .before .loop .w) (c .before .before .before
-            .before .before .before .before .before .before .before .before .before .before .before .before .before .loop .s) (c .before
+            .before .before .before .before .before .before .before .loop .words) (c .before .before .before .before .before .before
+            .before .before .before .before .before .before .before .before .before .before .loop .terms) (c .before .before .before
+            .before .before .before .before .before .before .before .before .before .before .before .before .before .loop .work) (c
             .before .before .before .before .before .before .before .before .before .before .before .before .before .before .before
-            .loop .p)) (m70 (c .before) (After-search·gave c))
+            .before .loop .s) (c .before .before .before .before .before .before .before .before .before .before .before .before .before
+            .before .before .before .loop .p)) (m70 (c .before) (After-search·gave c))
         lay3 = λ c. (
           Path'.refl,
           λ g. λ g'. (
@@ -5250,11 +5252,11 @@ module _ (claims· : Claims) where
                         before = record {
                           before = record {
                             before = record
-                                { before = record { before = c .before; search = c .search }; f3 = record { given = g } };
+                                { before = record { before = c .before; search = c .search }; words3 = record { given = g } };
                             slice-known7 = record
                                 { given = g' };
                           };
-                          t3 = record { given = g'' };
+                          terms3 = record { given = g'' };
                         };
                         slice-known8 = record { given = g'3 };
                       } g'4) .ptr) (Row.get 1 (T104
@@ -5262,11 +5264,11 @@ module _ (claims· : Claims) where
                         before = record {
                           before = record {
                             before = record
-                                { before = record { before = c .before; search = c .search }; f3 = record { given = g } };
+                                { before = record { before = c .before; search = c .search }; words3 = record { given = g } };
                             slice-known7 = record
                                 { given = g' };
                           };
-                          t3 = record { given = g'' };
+                          terms3 = record { given = g'' };
                         };
                         slice-known8 = record { given = g'3 };
                       } g'4) .name) (Row.get 1 (T104
@@ -5274,42 +5276,42 @@ module _ (claims· : Claims) where
                         before = record {
                           before = record {
                             before = record
-                                { before = record { before = c .before; search = c .search }; f3 = record { given = g } };
+                                { before = record { before = c .before; search = c .search }; words3 = record { given = g } };
                             slice-known7 = record
                                 { given = g' };
                           };
-                          t3 = record { given = g'' };
+                          terms3 = record { given = g'' };
                         };
                         slice-known8 = record { given = g'3 };
-                      } g'4) .now) (dens (c .before .before
+                      } g'4) .now) (dens (c .before
                       .before .before .before .before .before .before .before .before .before .before .before .before .before .before .before
-                      .before .before .before .κs) (c .before .before .before .before .before .before .before .before .before .before .before
-                      .before .before .before .before .before .before .before .before .before .args) .0 .now) (same-length-7 record {
-                        before =
-                            record {
-                              before = record {
-                                before = record {
-                                  before = record
-                                      { before = record { before = c .before; search = c .search }; f3 = record { given = g } };
-                                  slice-known7 = record
-                                      { given = g' };
-                                };
-                                t3 = record { given = g'' };
-                              };
-                              slice-known8 = record { given = g'3 };
+                      .before .before .before .before .κs) (c .before .before .before .before .before .before .before .before .before .before
+                      .before .before .before .before .before .before .before .before .before .before .args) .0 .now) (same-length-7 record {
+                        before = record {
+                          before = record {
+                            before = record {
+                              before = record
+                                  { before = record { before = c .before; search = c .search }; words3 = record { given = g } };
+                              slice-known7 = record
+                                  { given = g' };
                             };
-                        w3 = record { given = g'4 };
+                            terms3 = record { given = g'' };
+                          };
+                          slice-known8 = record { given = g'3 };
+                        };
+                        work3 = record
+                            { given = g'4 };
                       }),
                   (
                     MutSlice.fix-len (Row.get 2 (T104 .locals) (m78 record {
                       before = record {
                         before = record {
-                          before = record
-                              { before = record { before = c .before; search = c .search }; f3 = record { given = g } };
+                          before =
+                              record { before = record { before = c .before; search = c .search }; words3 = record { given = g } };
                           slice-known7 = record
                               { given = g' };
                         };
-                        t3 = record { given = g'' };
+                        terms3 = record { given = g'' };
                       };
                       slice-known8 = record { given = g'3 };
                     } g'4) .ptr) (Row.get 2 (T104
@@ -5317,11 +5319,11 @@ module _ (claims· : Claims) where
                           before = record {
                             before = record {
                               before = record
-                                  { before = record { before = c .before; search = c .search }; f3 = record { given = g } };
+                                  { before = record { before = c .before; search = c .search }; words3 = record { given = g } };
                               slice-known7 = record
                                   { given = g' };
                             };
-                            t3 = record { given = g'' };
+                            terms3 = record { given = g'' };
                           };
                           slice-known8 = record { given = g'3 };
                         } g'4) .name) (Row.get 2 (T104
@@ -5329,42 +5331,42 @@ module _ (claims· : Claims) where
                           before = record {
                             before = record {
                               before = record
-                                  { before = record { before = c .before; search = c .search }; f3 = record { given = g } };
+                                  { before = record { before = c .before; search = c .search }; words3 = record { given = g } };
                               slice-known7 = record
                                   { given = g' };
                             };
-                            t3 = record { given = g'' };
+                            terms3 = record { given = g'' };
                           };
                           slice-known8 = record { given = g'3 };
-                        } g'4) .now) (dens (c .before .before
+                        } g'4) .now) (dens (c .before
                         .before .before .before .before .before .before .before .before .before .before .before .before .before .before .before
-                        .before .before .before .κs) (c .before .before .before .before .before .before .before .before .before .before .before
-                        .before .before .before .before .before .before .before .before .before .args) .1 .0 .now) (same-length-8 record {
-                          before =
-                              record {
-                                before = record {
-                                  before = record {
-                                    before = record
-                                        { before = record { before = c .before; search = c .search }; f3 = record { given = g } };
-                                    slice-known7 = record
-                                        { given = g' };
-                                  };
-                                  t3 = record { given = g'' };
-                                };
-                                slice-known8 = record { given = g'3 };
+                        .before .before .before .before .κs) (c .before .before .before .before .before .before .before .before .before .before
+                        .before .before .before .before .before .before .before .before .before .before .args) .1 .0 .now) (same-length-8 record {
+                          before = record {
+                            before = record {
+                              before = record {
+                                before = record
+                                    { before = record { before = c .before; search = c .search }; words3 = record { given = g } };
+                                slice-known7 = record
+                                    { given = g' };
                               };
-                          w3 = record { given = g'4 };
+                              terms3 = record { given = g'' };
+                            };
+                            slice-known8 = record { given = g'3 };
+                          };
+                          work3 = record
+                              { given = g'4 };
                         }),
                     (
                       MutSlice.fix-len (Row.get 3 (T104 .locals) (m78 record {
                         before = record {
                           before = record {
-                            before = record
-                                { before = record { before = c .before; search = c .search }; f3 = record { given = g } };
+                            before =
+                                record { before = record { before = c .before; search = c .search }; words3 = record { given = g } };
                             slice-known7 = record
                                 { given = g' };
                           };
-                          t3 = record { given = g'' };
+                          terms3 = record { given = g'' };
                         };
                         slice-known8 = record { given = g'3 };
                       } g'4) .ptr) (Row.get 3 (T104
@@ -5372,11 +5374,11 @@ module _ (claims· : Claims) where
                             before = record {
                               before = record {
                                 before = record
-                                    { before = record { before = c .before; search = c .search }; f3 = record { given = g } };
+                                    { before = record { before = c .before; search = c .search }; words3 = record { given = g } };
                                 slice-known7 = record
                                     { given = g' };
                               };
-                              t3 = record { given = g'' };
+                              terms3 = record { given = g'' };
                             };
                             slice-known8 = record { given = g'3 };
                           } g'4) .name) (Row.get 3 (T104
@@ -5384,31 +5386,31 @@ module _ (claims· : Claims) where
                             before = record {
                               before = record {
                                 before = record
-                                    { before = record { before = c .before; search = c .search }; f3 = record { given = g } };
+                                    { before = record { before = c .before; search = c .search }; words3 = record { given = g } };
                                 slice-known7 = record
                                     { given = g' };
                               };
-                              t3 = record { given = g'' };
+                              terms3 = record { given = g'' };
                             };
                             slice-known8 = record { given = g'3 };
-                          } g'4) .now) (dens (c .before .before
+                          } g'4) .now) (dens (c .before
                           .before .before .before .before .before .before .before .before .before .before .before .before .before .before .before
-                          .before .before .before .κs) (c .before .before .before .before .before .before .before .before .before .before .before
-                          .before .before .before .before .before .before .before .before .before .args) .1 .1 .0 .now) (same-length-9 record {
-                            before
-                                = record {
-                                  before = record {
-                                    before = record {
-                                      before = record
-                                          { before = record { before = c .before; search = c .search }; f3 = record { given = g } };
-                                      slice-known7 = record
-                                          { given = g' };
-                                    };
-                                    t3 = record { given = g'' };
-                                  };
-                                  slice-known8 = record { given = g'3 };
+                          .before .before .before .before .κs) (c .before .before .before .before .before .before .before .before .before .before
+                          .before .before .before .before .before .before .before .before .before .before .args) .1 .1 .0 .now) (same-length-9 record {
+                            before = record {
+                              before = record {
+                                before = record {
+                                  before = record
+                                      { before = record { before = c .before; search = c .search }; words3 = record { given = g } };
+                                  slice-known7 = record
+                                      { given = g' };
                                 };
-                            w3 = record { given = g'4 };
+                                terms3 = record { given = g'' };
+                              };
+                              slice-known8 = record { given = g'3 };
+                            };
+                            work3 = record
+                                { given = g'4 };
                           }),
                       (Path'.refl, (tt, (tt, (tt, tt)))),
                     ),
@@ -5417,17 +5419,17 @@ module _ (claims· : Claims) where
                 returns-3 record {
                   before = record {
                     before = record {
-                      before = record {
-                        before =
-                            record { before = record { before = c .before; search = c .search }; f3 = record { given = g } };
-                        slice-known7 = record
-                            { given = g' };
-                      };
-                      t3 = record { given = g'' };
+                      before =
+                          record {
+                            before = record { before = record { before = c .before; search = c .search }; words3 = record { given = g } };
+                            slice-known7 = record { given = g' };
+                          };
+                      terms3 = record { given = g'' };
                     };
                     slice-known8 = record { given = g'3 };
                   };
-                  w3 = record { given = g'4 };
+                  work3 =
+                      record { given = g'4 };
                 },
               ),
             ),
@@ -5436,12 +5438,12 @@ module _ (claims· : Claims) where
 
         lay2 : (c : After-left-or) → at30 (W3 (c .before .before .before .before .before .before .before .before .before .before .before
             .before .before .before .before .before .before) (c .before .before .before .before .before .before .before .before .before
-            .before .before .before .before .before .before .before .loop .f) (c .before .before .before .before .before .before .before
-            .before .before .before .before .before .before .before .before .before .loop .t) (c .before .before .before .before .before
-            .before .before .before .before .before .before .before .before .before .before .before .loop .w) (c .before .before .before
-            .before .before .before .before .before .before .before .before .before .before .before .before .before .loop .s) (c .before
+            .before .before .before .before .before .before .before .loop .words) (c .before .before .before .before .before .before
+            .before .before .before .before .before .before .before .before .before .before .loop .terms) (c .before .before .before
+            .before .before .before .before .before .before .before .before .before .before .before .before .before .loop .work) (c
             .before .before .before .before .before .before .before .before .before .before .before .before .before .before .before
-            .loop .p)) (m50 (c .before) (After-left-or·gave c))
+            .before .loop .s) (c .before .before .before .before .before .before .before .before .before .before .before .before .before
+            .before .before .before .loop .p)) (m50 (c .before) (After-left-or·gave c))
         lay2 = λ c. (
           Path'.refl,
           λ g. λ g'. (
@@ -5455,23 +5457,23 @@ module _ (claims· : Claims) where
                         before = record {
                           before = record {
                             before = record
-                                { before = record { before = c .before; left-or = c .left-or }; f2 = record { given = g } };
+                                { before = record { before = c .before; left-or = c .left-or }; words2 = record { given = g } };
                             slice-known5 = record
                                 { given = g' };
                           };
-                          t2 = record { given = g'' };
+                          terms2 = record { given = g'' };
                         };
                         slice-known6 = record { given = g'3 };
-                      } g'4) .ptr) (Row.get 1 (T75 .locals)
-                      (m58 record {
+                      } g'4) .ptr) (Row.get 1 (T75
+                      .locals) (m58 record {
                         before = record {
                           before = record {
                             before = record
-                                { before = record { before = c .before; left-or = c .left-or }; f2 = record { given = g } };
+                                { before = record { before = c .before; left-or = c .left-or }; words2 = record { given = g } };
                             slice-known5 = record
                                 { given = g' };
                           };
-                          t2 = record { given = g'' };
+                          terms2 = record { given = g'' };
                         };
                         slice-known6 = record { given = g'3 };
                       } g'4) .name) (Row.get 1 (T75
@@ -5479,54 +5481,54 @@ module _ (claims· : Claims) where
                         before = record {
                           before = record {
                             before = record
-                                { before = record { before = c .before; left-or = c .left-or }; f2 = record { given = g } };
+                                { before = record { before = c .before; left-or = c .left-or }; words2 = record { given = g } };
                             slice-known5 = record
                                 { given = g' };
                           };
-                          t2 = record { given = g'' };
+                          terms2 = record { given = g'' };
                         };
                         slice-known6 = record { given = g'3 };
-                      } g'4) .now) (dens (c .before .before
+                      } g'4) .now) (dens (c .before
                       .before .before .before .before .before .before .before .before .before .before .before .before .before .before .before
-                      .before .before .before .κs) (c .before .before .before .before .before .before .before .before .before .before .before
-                      .before .before .before .before .before .before .before .before .before .args) .0 .now) (same-length-4 record {
-                        before =
-                            record {
-                              before = record {
-                                before = record {
-                                  before = record
-                                      { before = record { before = c .before; left-or = c .left-or }; f2 = record { given = g } };
-                                  slice-known5 = record
-                                      { given = g' };
-                                };
-                                t2 = record { given = g'' };
-                              };
-                              slice-known6 = record { given = g'3 };
+                      .before .before .before .before .κs) (c .before .before .before .before .before .before .before .before .before .before
+                      .before .before .before .before .before .before .before .before .before .before .args) .0 .now) (same-length-4 record {
+                        before = record {
+                          before = record {
+                            before = record {
+                              before = record
+                                  { before = record { before = c .before; left-or = c .left-or }; words2 = record { given = g } };
+                              slice-known5 = record
+                                  { given = g' };
                             };
-                        w2 = record { given = g'4 };
+                            terms2 = record { given = g'' };
+                          };
+                          slice-known6 = record { given = g'3 };
+                        };
+                        work2 = record
+                            { given = g'4 };
                       }),
                   (
                     MutSlice.fix-len (Row.get 2 (T75 .locals) (m58 record {
                       before = record {
                         before = record {
-                          before = record
-                              { before = record { before = c .before; left-or = c .left-or }; f2 = record { given = g } };
-                          slice-known5 = record
-                              { given = g' };
+                          before =
+                              record { before = record { before = c .before; left-or = c .left-or }; words2 = record { given = g } };
+                          slice-known5 =
+                              record { given = g' };
                         };
-                        t2 = record { given = g'' };
+                        terms2 = record { given = g'' };
                       };
                       slice-known6 = record { given = g'3 };
-                    } g'4) .ptr) (Row.get 2 (T75 .locals)
-                        (m58 record {
+                    } g'4) .ptr) (Row.get 2
+                        (T75 .locals) (m58 record {
                           before = record {
                             before = record {
                               before = record
-                                  { before = record { before = c .before; left-or = c .left-or }; f2 = record { given = g } };
+                                  { before = record { before = c .before; left-or = c .left-or }; words2 = record { given = g } };
                               slice-known5 = record
                                   { given = g' };
                             };
-                            t2 = record { given = g'' };
+                            terms2 = record { given = g'' };
                           };
                           slice-known6 = record { given = g'3 };
                         } g'4) .name) (Row.get 2 (T75
@@ -5534,54 +5536,54 @@ module _ (claims· : Claims) where
                           before = record {
                             before = record {
                               before = record
-                                  { before = record { before = c .before; left-or = c .left-or }; f2 = record { given = g } };
+                                  { before = record { before = c .before; left-or = c .left-or }; words2 = record { given = g } };
                               slice-known5 = record
                                   { given = g' };
                             };
-                            t2 = record { given = g'' };
+                            terms2 = record { given = g'' };
                           };
                           slice-known6 = record { given = g'3 };
-                        } g'4) .now) (dens (c .before .before
+                        } g'4) .now) (dens (c .before
                         .before .before .before .before .before .before .before .before .before .before .before .before .before .before .before
-                        .before .before .before .κs) (c .before .before .before .before .before .before .before .before .before .before .before
-                        .before .before .before .before .before .before .before .before .before .args) .1 .0 .now) (same-length-5 record {
-                          before =
-                              record {
-                                before = record {
-                                  before = record {
-                                    before = record
-                                        { before = record { before = c .before; left-or = c .left-or }; f2 = record { given = g } };
-                                    slice-known5 = record
-                                        { given = g' };
-                                  };
-                                  t2 = record { given = g'' };
-                                };
-                                slice-known6 = record { given = g'3 };
+                        .before .before .before .before .κs) (c .before .before .before .before .before .before .before .before .before .before
+                        .before .before .before .before .before .before .before .before .before .before .args) .1 .0 .now) (same-length-5 record {
+                          before = record {
+                            before = record {
+                              before = record {
+                                before = record
+                                    { before = record { before = c .before; left-or = c .left-or }; words2 = record { given = g } };
+                                slice-known5 = record
+                                    { given = g' };
                               };
-                          w2 = record { given = g'4 };
+                              terms2 = record { given = g'' };
+                            };
+                            slice-known6 = record { given = g'3 };
+                          };
+                          work2 = record
+                              { given = g'4 };
                         }),
                     (
                       MutSlice.fix-len (Row.get 3 (T75 .locals) (m58 record {
                         before = record {
                           before = record {
-                            before = record
-                                { before = record { before = c .before; left-or = c .left-or }; f2 = record { given = g } };
-                            slice-known5 = record
-                                { given = g' };
+                            before =
+                                record { before = record { before = c .before; left-or = c .left-or }; words2 = record { given = g } };
+                            slice-known5 =
+                                record { given = g' };
                           };
-                          t2 = record { given = g'' };
+                          terms2 = record { given = g'' };
                         };
                         slice-known6 = record { given = g'3 };
-                      } g'4) .ptr) (Row.get 3 (T75 .locals)
-                          (m58 record {
+                      } g'4) .ptr) (Row.get 3
+                          (T75 .locals) (m58 record {
                             before = record {
                               before = record {
                                 before = record
-                                    { before = record { before = c .before; left-or = c .left-or }; f2 = record { given = g } };
+                                    { before = record { before = c .before; left-or = c .left-or }; words2 = record { given = g } };
                                 slice-known5 = record
                                     { given = g' };
                               };
-                              t2 = record { given = g'' };
+                              terms2 = record { given = g'' };
                             };
                             slice-known6 = record { given = g'3 };
                           } g'4) .name) (Row.get 3 (T75
@@ -5589,31 +5591,31 @@ module _ (claims· : Claims) where
                             before = record {
                               before = record {
                                 before = record
-                                    { before = record { before = c .before; left-or = c .left-or }; f2 = record { given = g } };
+                                    { before = record { before = c .before; left-or = c .left-or }; words2 = record { given = g } };
                                 slice-known5 = record
                                     { given = g' };
                               };
-                              t2 = record { given = g'' };
+                              terms2 = record { given = g'' };
                             };
                             slice-known6 = record { given = g'3 };
-                          } g'4) .now) (dens (c .before .before
+                          } g'4) .now) (dens (c .before
                           .before .before .before .before .before .before .before .before .before .before .before .before .before .before .before
-                          .before .before .before .κs) (c .before .before .before .before .before .before .before .before .before .before .before
-                          .before .before .before .before .before .before .before .before .before .args) .1 .1 .0 .now) (same-length-6 record {
-                            before
-                                = record {
-                                  before = record {
-                                    before = record {
-                                      before = record
-                                          { before = record { before = c .before; left-or = c .left-or }; f2 = record { given = g } };
-                                      slice-known5 = record
-                                          { given = g' };
-                                    };
-                                    t2 = record { given = g'' };
-                                  };
-                                  slice-known6 = record { given = g'3 };
+                          .before .before .before .before .κs) (c .before .before .before .before .before .before .before .before .before .before
+                          .before .before .before .before .before .before .before .before .before .before .args) .1 .1 .0 .now) (same-length-6 record {
+                            before = record {
+                              before = record {
+                                before = record {
+                                  before = record
+                                      { before = record { before = c .before; left-or = c .left-or }; words2 = record { given = g } };
+                                  slice-known5 = record
+                                      { given = g' };
                                 };
-                            w2 = record { given = g'4 };
+                                terms2 = record { given = g'' };
+                              };
+                              slice-known6 = record { given = g'3 };
+                            };
+                            work2 = record
+                                { given = g'4 };
                           }),
                       (Path'.refl, (tt, (tt, (tt, tt)))),
                     ),
@@ -5622,26 +5624,26 @@ module _ (claims· : Claims) where
                 returns-2 record {
                   before = record {
                     before = record {
-                      before = record {
-                        before =
-                            record { before = record { before = c .before; left-or = c .left-or }; f2 = record { given = g } };
-                        slice-known5 = record
-                            { given = g' };
-                      };
-                      t2 = record { given = g'' };
+                      before =
+                          record {
+                            before = record { before = record { before = c .before; left-or = c .left-or }; words2 = record { given = g } };
+                            slice-known5 = record { given = g' };
+                          };
+                      terms2 = record { given = g'' };
                     };
                     slice-known6 = record { given = g'3 };
                   };
-                  w2 = record { given = g'4 };
+                  work2 =
+                      record { given = g'4 };
                 },
               ),
             ),
           ),
         )
 
-        lay1 : (c : After-turn) → at89 (W3 (c .before .before .before .before .before) (c .before .before .before .before .loop .f) (c
-            .before .before .before .before .loop .t) (c .before .before .before .before .loop .w) (c .before .before .before .before
-            .loop .s) (c .before .before .before .before .loop .p)) (m15 (c .before) (After-turn·gave c))
+        lay1 : (c : After-turn) → at89 (W3 (c .before .before .before .before .before) (c .before .before .before .before .loop .words)
+            (c .before .before .before .before .loop .terms) (c .before .before .before .before .loop .work) (c .before .before .before
+            .before .loop .s) (c .before .before .before .before .loop .p)) (m15 (c .before) (After-turn·gave c))
         lay1 = λ c. (
           Path'.refl,
           λ g. λ g'. (
@@ -5656,158 +5658,159 @@ module _ (claims· : Claims) where
                         before = record {
                           before = record {
                             before = record
-                                { before = record { before = c .before; turn = c .turn }; f = record { given = g } };
+                                { before = record { before = c .before; turn = c .turn }; words = record { given = g } };
                             slice-known3 = record
                                 { given = g' };
                           };
-                          t = record { given = g'' };
+                          terms = record { given = g'' };
                         };
                         slice-known4 = record { given = g'3 };
                       };
-                      w = record { given = g'4 };
+                      work = record
+                          { given = g'4 };
                     };
-                    match
-                        = record { keys1 = k };
+                    match = record { keys1 = k };
                   },
                   λ g'5. λ g'6. (
-                    μ·0 (Row.get 1 (T8 .locals) (m7 (c .before .before .before .before .before .before)
-                        (c .before .before .before .before .before .shared-slice-known .given)) .now) (Row.get 2 (T8 .locals) (m7 (c .before .before
-                        .before .before .before .before) (c .before .before .before .before .before .shared-slice-known .given)) .now) (Row.get 3
-                        (T8 .locals) (m7 (c .before .before .before .before .before .before) (c .before .before .before .before .before
-                        .shared-slice-known .given)) .now) (Row.get 4 (T8 .locals) (m7 (c .before .before .before .before .before .before) (c
-                        .before .before .before .before .before .shared-slice-known .given)) .now) (Row.get 5 (T8 .locals) (m7 (c .before .before
-                        .before .before .before .before) (c .before .before .before .before .before .shared-slice-known .given))) (Row.get 8 (T8
+                    μ·0 (Row.get 1 (T8 .locals) (m7 (c .before .before .before
+                        .before .before .before) (c .before .before .before .before .before .shared-slice-known .given)) .now) (Row.get 2 (T8
                         .locals) (m7 (c .before .before .before .before .before .before) (c .before .before .before .before .before
-                        .shared-slice-known .given))) (Row.get 9 (T8 .locals) (m7 (c .before .before .before .before .before .before) (c .before
-                        .before .before .before .before .shared-slice-known .given))) (Row.get 1 (T8 .locals) (m31 record {
-                          before = record {
-                            before
-                                = record {
-                                  before = record {
-                                    before = record {
-                                      before = record {
-                                        before = record
-                                            { before = record { before = c .before; turn = c .turn }; f = record { given = g } };
-                                        slice-known3 = record
-                                            { given = g' };
-                                      };
-                                      t = record { given = g'' };
-                                    };
-                                    slice-known4 = record { given = g'3 };
-                                  };
-                                  w = record { given = g'4 };
-                                };
-                            match
-                                = record { keys1 = k };
-                          };
-                          s1 = record { given = g'5 };
-                        } g'6) .now) (Row.get 2 (T8 .locals) (m31 record {
+                        .shared-slice-known .given)) .now) (Row.get 3 (T8 .locals) (m7 (c .before .before .before .before .before .before) (c
+                        .before .before .before .before .before .shared-slice-known .given)) .now) (Row.get 4 (T8 .locals) (m7 (c .before .before
+                        .before .before .before .before) (c .before .before .before .before .before .shared-slice-known .given)) .now) (Row.get 5
+                        (T8 .locals) (m7 (c .before .before .before .before .before .before) (c .before .before .before .before .before
+                        .shared-slice-known .given))) (Row.get 8 (T8 .locals) (m7 (c .before .before .before .before .before .before) (c .before
+                        .before .before .before .before .shared-slice-known .given))) (Row.get 9 (T8 .locals) (m7 (c .before .before .before .before
+                        .before .before) (c .before .before .before .before .before .shared-slice-known .given))) (Row.get 1 (T8 .locals) (m31
+                        record {
                           before = record {
                             before = record {
                               before = record {
                                 before = record {
                                   before = record {
                                     before = record
-                                        { before = record { before = c .before; turn = c .turn }; f = record { given = g } };
+                                        { before = record { before = c .before; turn = c .turn }; words = record { given = g } };
                                     slice-known3 = record
                                         { given = g' };
                                   };
-                                  t = record { given = g'' };
+                                  terms = record { given = g'' };
                                 };
                                 slice-known4 = record { given = g'3 };
                               };
-                              w = record { given = g'4 };
+                              work = record
+                                  { given = g'4 };
                             };
-                            match
-                                = record { keys1 = k };
+                            match = record { keys1 = k };
                           };
                           s1 = record { given = g'5 };
-                        } g'6) .now) (Row.get 3 (T8 .locals) (m31 record {
+                        } g'6) .now) (Row.get 2 (T8 .locals) (m31
+                        record {
                           before = record {
                             before = record {
                               before = record {
                                 before = record {
                                   before = record {
                                     before = record
-                                        { before = record { before = c .before; turn = c .turn }; f = record { given = g } };
+                                        { before = record { before = c .before; turn = c .turn }; words = record { given = g } };
                                     slice-known3 = record
                                         { given = g' };
                                   };
-                                  t = record { given = g'' };
+                                  terms = record { given = g'' };
                                 };
                                 slice-known4 = record { given = g'3 };
                               };
-                              w = record { given = g'4 };
+                              work = record
+                                  { given = g'4 };
                             };
-                            match
-                                = record { keys1 = k };
+                            match = record { keys1 = k };
                           };
                           s1 = record { given = g'5 };
-                        } g'6) .now) (Row.get 8 (T8 .locals) (m31 record {
+                        } g'6) .now) (Row.get 3 (T8 .locals) (m31
+                        record {
                           before = record {
                             before = record {
                               before = record {
                                 before = record {
                                   before = record {
                                     before = record
-                                        { before = record { before = c .before; turn = c .turn }; f = record { given = g } };
+                                        { before = record { before = c .before; turn = c .turn }; words = record { given = g } };
                                     slice-known3 = record
                                         { given = g' };
                                   };
-                                  t = record { given = g'' };
+                                  terms = record { given = g'' };
                                 };
                                 slice-known4 = record { given = g'3 };
                               };
-                              w = record { given = g'4 };
+                              work = record
+                                  { given = g'4 };
                             };
-                            match
-                                = record { keys1 = k };
+                            match = record { keys1 = k };
+                          };
+                          s1 = record { given = g'5 };
+                        } g'6) .now) (Row.get 8 (T8 .locals) (m31
+                        record {
+                          before = record {
+                            before = record {
+                              before = record {
+                                before = record {
+                                  before = record {
+                                    before = record
+                                        { before = record { before = c .before; turn = c .turn }; words = record { given = g } };
+                                    slice-known3 = record
+                                        { given = g' };
+                                  };
+                                  terms = record { given = g'' };
+                                };
+                                slice-known4 = record { given = g'3 };
+                              };
+                              work = record
+                                  { given = g'4 };
+                            };
+                            match = record { keys1 = k };
                           };
                           s1 = record { given = g'5 };
                         } g'6)) (Row.get 9 (T8 .locals) (m31 record {
                           before = record {
-                            before
-                                = record {
+                            before = record {
+                              before = record {
+                                before = record {
                                   before = record {
-                                    before = record {
-                                      before = record {
-                                        before = record
-                                            { before = record { before = c .before; turn = c .turn }; f = record { given = g } };
-                                        slice-known3 = record
-                                            { given = g' };
-                                      };
-                                      t = record { given = g'' };
-                                    };
-                                    slice-known4 = record { given = g'3 };
+                                    before = record
+                                        { before = record { before = c .before; turn = c .turn }; words = record { given = g } };
+                                    slice-known3 = record
+                                        { given = g' };
                                   };
-                                  w = record { given = g'4 };
+                                  terms = record { given = g'' };
                                 };
-                            match
-                                = record { keys1 = k };
+                                slice-known4 = record { given = g'3 };
+                              };
+                              work = record
+                                  { given = g'4 };
+                            };
+                            match = record { keys1 = k };
                           };
                           s1 = record { given = g'5 };
                         } g'6)),
                     loop-less record {
                       before = record {
                         before = record {
-                          before
-                              = record {
+                          before = record {
+                            before = record {
+                              before = record {
                                 before = record {
-                                  before = record {
-                                    before = record {
-                                      before = record
-                                          { before = record { before = c .before; turn = c .turn }; f = record { given = g } };
-                                      slice-known3 = record
-                                          { given = g' };
-                                    };
-                                    t = record { given = g'' };
-                                  };
-                                  slice-known4 = record { given = g'3 };
+                                  before = record
+                                      { before = record { before = c .before; turn = c .turn }; words = record { given = g } };
+                                  slice-known3 = record
+                                      { given = g' };
                                 };
-                                w = record { given = g'4 };
+                                terms = record { given = g'' };
                               };
-                          match
-                              = record { keys1 = k };
+                              slice-known4 = record { given = g'3 };
+                            };
+                            work = record
+                                { given = g'4 };
+                          };
+                          match = record { keys1 = k };
                         };
                         s1 = record { given = g'5 };
                       };
@@ -5815,7 +5818,28 @@ module _ (claims· : Claims) where
                     },
                     (
                       (
-                        Row.get 1 (T8 .locals)
+                        Row.get 1 (T8 .locals) (m31 record {
+                          before = record {
+                            before = record {
+                              before = record {
+                                before = record {
+                                  before =
+                                      record {
+                                        before = record { before = record { before = c .before; turn = c .turn }; words = record { given = g } };
+                                        slice-known3 = record { given = g' };
+                                      };
+                                  terms = record { given = g'' };
+                                };
+                                slice-known4 = record { given = g'3 };
+                              };
+                              work =
+                                  record { given = g'4 };
+                            };
+                            match = record { keys1 = k };
+                          };
+                          s1 = record { given = g'5 };
+                        } g'6) .now,
+                        Row.get 2 (T8 .locals)
                             (m31 record {
                               before = record {
                                 before = record {
@@ -5823,132 +5847,111 @@ module _ (claims· : Claims) where
                                     before = record {
                                       before = record {
                                         before = record
-                                            { before = record { before = c .before; turn = c .turn }; f = record { given = g } };
+                                            { before = record { before = c .before; turn = c .turn }; words = record { given = g } };
                                         slice-known3 = record
                                             { given = g' };
                                       };
-                                      t = record { given = g'' };
+                                      terms = record { given = g'' };
                                     };
                                     slice-known4 = record { given = g'3 };
                                   };
-                                  w = record { given = g'4 };
+                                  work = record
+                                      { given = g'4 };
                                 };
-                                match
-                                    = record { keys1 = k };
+                                match = record { keys1 = k };
                               };
                               s1 = record { given = g'5 };
                             } g'6) .now,
-                        Row.get 2 (T8 .locals) (m31 record {
-                          before = record {
-                            before = record {
+                        Row.get 3 (T8 .locals) (m31
+                            record {
                               before = record {
                                 before = record {
-                                  before = record {
-                                    before = record
-                                        { before = record { before = c .before; turn = c .turn }; f = record { given = g } };
-                                    slice-known3 = record
-                                        { given = g' };
-                                  };
-                                  t = record { given = g'' };
-                                };
-                                slice-known4 = record { given = g'3 };
-                              };
-                              w = record { given = g'4 };
-                            };
-                            match
-                                = record { keys1 = k };
-                          };
-                          s1 = record { given = g'5 };
-                        } g'6) .now,
-                        Row.get 3 (T8 .locals) (m31 record {
-                          before = record {
-                            before = record {
-                              before = record {
-                                before = record {
-                                  before = record {
-                                    before = record
-                                        { before = record { before = c .before; turn = c .turn }; f = record { given = g } };
-                                    slice-known3 = record
-                                        { given = g' };
-                                  };
-                                  t = record { given = g'' };
-                                };
-                                slice-known4 = record { given = g'3 };
-                              };
-                              w = record { given = g'4 };
-                            };
-                            match
-                                = record { keys1 = k };
-                          };
-                          s1 = record { given = g'5 };
-                        } g'6) .now,
-                        Row.get 8 (T8 .locals) (m31 record {
-                          before = record {
-                            before = record {
-                              before = record {
-                                before = record {
-                                  before = record {
-                                    before = record
-                                        { before = record { before = c .before; turn = c .turn }; f = record { given = g } };
-                                    slice-known3 = record
-                                        { given = g' };
-                                  };
-                                  t = record { given = g'' };
-                                };
-                                slice-known4 = record { given = g'3 };
-                              };
-                              w = record { given = g'4 };
-                            };
-                            match
-                                = record { keys1 = k };
-                          };
-                          s1 = record { given = g'5 };
-                        } g'6),
-                        Row.get 9 (T8 .locals) (m31 record {
-                          before = record {
-                            before
-                                = record {
                                   before = record {
                                     before = record {
                                       before = record {
                                         before = record
-                                            { before = record { before = c .before; turn = c .turn }; f = record { given = g } };
+                                            { before = record { before = c .before; turn = c .turn }; words = record { given = g } };
                                         slice-known3 = record
                                             { given = g' };
                                       };
-                                      t = record { given = g'' };
+                                      terms = record { given = g'' };
                                     };
                                     slice-known4 = record { given = g'3 };
                                   };
-                                  w = record { given = g'4 };
+                                  work = record
+                                      { given = g'4 };
                                 };
-                            match
-                                = record { keys1 = k };
+                                match = record { keys1 = k };
+                              };
+                              s1 = record { given = g'5 };
+                            } g'6) .now,
+                        Row.get 8 (T8 .locals) (m31
+                            record {
+                              before = record {
+                                before = record {
+                                  before = record {
+                                    before = record {
+                                      before = record {
+                                        before = record
+                                            { before = record { before = c .before; turn = c .turn }; words = record { given = g } };
+                                        slice-known3 = record
+                                            { given = g' };
+                                      };
+                                      terms = record { given = g'' };
+                                    };
+                                    slice-known4 = record { given = g'3 };
+                                  };
+                                  work = record
+                                      { given = g'4 };
+                                };
+                                match = record { keys1 = k };
+                              };
+                              s1 = record { given = g'5 };
+                            } g'6),
+                        Row.get 9 (T8 .locals) (m31 record {
+                          before = record {
+                            before = record {
+                              before = record {
+                                before = record {
+                                  before = record {
+                                    before = record
+                                        { before = record { before = c .before; turn = c .turn }; words = record { given = g } };
+                                    slice-known3 = record
+                                        { given = g' };
+                                  };
+                                  terms = record { given = g'' };
+                                };
+                                slice-known4 = record { given = g'3 };
+                              };
+                              work = record
+                                  { given = g'4 };
+                            };
+                            match = record { keys1 = k };
                           };
                           s1 = record { given = g'5 };
                         } g'6),
                       ),
                       Path'.refl {a = m31 record {
-                        before = record {
-                          before =
-                              record {
+                        before
+                            = record {
+                              before = record {
                                 before = record {
                                   before = record {
                                     before = record {
                                       before = record
-                                          { before = record { before = c .before; turn = c .turn }; f = record { given = g } };
+                                          { before = record { before = c .before; turn = c .turn }; words = record { given = g } };
                                       slice-known3 = record
                                           { given = g' };
                                     };
-                                    t = record { given = g'' };
+                                    terms = record { given = g'' };
                                   };
                                   slice-known4 = record { given = g'3 };
                                 };
-                                w = record { given = g'4 };
+                                work = record
+                                    { given = g'4 };
                               };
-                          match
-                              = record { keys1 = k };
-                        };
+                              match = record { keys1 = k };
+                            };
                         s1 = record { given = g'5 };
                       } g'6},
                       loop-again record {
@@ -5959,47 +5962,48 @@ module _ (claims· : Claims) where
                                 before = record {
                                   before = record {
                                     before = record
-                                        { before = record { before = c .before; turn = c .turn }; f = record { given = g } };
+                                        { before = record { before = c .before; turn = c .turn }; words = record { given = g } };
                                     slice-known3 = record
                                         { given = g' };
                                   };
-                                  t = record { given = g'' };
+                                  terms = record { given = g'' };
                                 };
                                 slice-known4 = record { given = g'3 };
                               };
-                              w = record { given = g'4 };
+                              work = record
+                                  { given = g'4 };
                             };
-                            match
-                                = record { keys1 = k };
+                            match = record { keys1 = k };
                           };
                           s1 = record { given = g'5 };
                         };
                         known-told = record { given = g'6 };
                       },
-                      Path'.refl {a = μ·0
-                          (Row.get 1 (T8 .locals) (m7 (c .before .before .before .before .before .before) (c .before .before .before .before .before
-                          .shared-slice-known .given)) .now) (Row.get 2 (T8 .locals) (m7 (c .before .before .before .before .before .before) (c
-                          .before .before .before .before .before .shared-slice-known .given)) .now) (Row.get 3 (T8 .locals) (m7 (c .before .before
-                          .before .before .before .before) (c .before .before .before .before .before .shared-slice-known .given)) .now) (Row.get 4
-                          (T8 .locals) (m7 (c .before .before .before .before .before .before) (c .before .before .before .before .before
-                          .shared-slice-known .given)) .now) (Row.get 5 (T8 .locals) (m7 (c .before .before .before .before .before .before) (c
-                          .before .before .before .before .before .shared-slice-known .given))) (Row.get 8 (T8 .locals) (m7 (c .before .before .before
-                          .before .before .before) (c .before .before .before .before .before .shared-slice-known .given))) (Row.get 9 (T8 .locals)
-                          (m7 (c .before .before .before .before .before .before) (c .before .before .before .before .before .shared-slice-known
-                          .given))) (Row.get 1 (T8 .locals) (m31 record {
+                      Path'.refl {a = μ·0 (Row.get 1 (T8 .locals) (m7 (c .before .before .before .before .before .before) (c .before .before
+                          .before .before .before .shared-slice-known .given)) .now) (Row.get 2 (T8 .locals) (m7 (c .before .before .before .before
+                          .before .before) (c .before .before .before .before .before .shared-slice-known .given)) .now) (Row.get 3 (T8 .locals) (m7
+                          (c .before .before .before .before .before .before) (c .before .before .before .before .before .shared-slice-known .given))
+                          .now) (Row.get 4 (T8 .locals) (m7 (c .before .before .before .before .before .before) (c .before .before .before .before
+                          .before .shared-slice-known .given)) .now) (Row.get 5 (T8 .locals) (m7 (c .before .before .before .before .before .before)
+                          (c .before .before .before .before .before .shared-slice-known .given))) (Row.get 8 (T8 .locals) (m7 (c .before .before
+                          .before .before .before .before) (c .before .before .before .before .before .shared-slice-known .given))) (Row.get 9 (T8
+                          .locals) (m7 (c .before .before .before .before .before .before) (c .before .before .before .before .before
+                          .shared-slice-known .given))) (Row.get 1 (T8 .locals) (m31 record {
                             before = record {
                               before = record {
                                 before = record {
                                   before = record {
                                     before = record {
-                                      before = record { before = record { before = c .before; turn = c .turn }; f = record { given = g } };
-                                      slice-known3 = record { given = g' };
+                                      before = record
+                                          { before = record { before = c .before; turn = c .turn }; words = record { given = g } };
+                                      slice-known3 = record
+                                          { given = g' };
                                     };
-                                    t = record { given = g'' };
+                                    terms = record { given = g'' };
                                   };
                                   slice-known4 = record { given = g'3 };
                                 };
-                                w = record
+                                work = record
                                     { given = g'4 };
                               };
                               match = record { keys1 = k };
@@ -6013,82 +6017,83 @@ module _ (claims· : Claims) where
                                   before = record {
                                     before = record {
                                       before = record
-                                          { before = record { before = c .before; turn = c .turn }; f = record { given = g } };
+                                          { before = record { before = c .before; turn = c .turn }; words = record { given = g } };
                                       slice-known3 = record
                                           { given = g' };
                                     };
-                                    t = record { given = g'' };
+                                    terms = record { given = g'' };
                                   };
                                   slice-known4 = record { given = g'3 };
                                 };
-                                w = record { given = g'4 };
+                                work = record
+                                    { given = g'4 };
                               };
-                              match
-                                  = record { keys1 = k };
+                              match = record { keys1 = k };
                             };
                             s1 = record { given = g'5 };
-                          } g'6) .now) (Row.get 3 (T8 .locals) (m31 record {
+                          } g'6) .now) (Row.get 3 (T8 .locals) (m31
+                          record {
                             before = record {
                               before = record {
                                 before = record {
                                   before = record {
                                     before = record {
                                       before = record
-                                          { before = record { before = c .before; turn = c .turn }; f = record { given = g } };
+                                          { before = record { before = c .before; turn = c .turn }; words = record { given = g } };
                                       slice-known3 = record
                                           { given = g' };
                                     };
-                                    t = record { given = g'' };
+                                    terms = record { given = g'' };
                                   };
                                   slice-known4 = record { given = g'3 };
                                 };
-                                w = record { given = g'4 };
+                                work = record
+                                    { given = g'4 };
                               };
-                              match
-                                  = record { keys1 = k };
+                              match = record { keys1 = k };
                             };
                             s1 = record { given = g'5 };
-                          } g'6) .now) (Row.get 8 (T8 .locals) (m31 record {
+                          } g'6) .now) (Row.get 8 (T8 .locals) (m31
+                          record {
                             before = record {
                               before = record {
                                 before = record {
                                   before = record {
                                     before = record {
                                       before = record
-                                          { before = record { before = c .before; turn = c .turn }; f = record { given = g } };
+                                          { before = record { before = c .before; turn = c .turn }; words = record { given = g } };
                                       slice-known3 = record
                                           { given = g' };
                                     };
-                                    t = record { given = g'' };
+                                    terms = record { given = g'' };
                                   };
                                   slice-known4 = record { given = g'3 };
                                 };
-                                w = record { given = g'4 };
+                                work = record
+                                    { given = g'4 };
                               };
-                              match
-                                  = record { keys1 = k };
+                              match = record { keys1 = k };
                             };
                             s1 = record { given = g'5 };
                           } g'6)) (Row.get 9 (T8 .locals) (m31 record {
                             before = record {
-                              before
-                                  = record {
+                              before = record {
+                                before = record {
+                                  before = record {
                                     before = record {
-                                      before = record {
-                                        before = record {
-                                          before = record
-                                              { before = record { before = c .before; turn = c .turn }; f = record { given = g } };
-                                          slice-known3 = record
-                                              { given = g' };
-                                        };
-                                        t = record { given = g'' };
-                                      };
-                                      slice-known4 = record { given = g'3 };
+                                      before = record
+                                          { before = record { before = c .before; turn = c .turn }; words = record { given = g } };
+                                      slice-known3 = record
+                                          { given = g' };
                                     };
-                                    w = record { given = g'4 };
+                                    terms = record { given = g'' };
                                   };
-                              match
-                                  = record { keys1 = k };
+                                  slice-known4 = record { given = g'3 };
+                                };
+                                work = record
+                                    { given = g'4 };
+                              };
+                              match = record { keys1 = k };
                             };
                             s1 = record { given = g'5 };
                           } g'6))},
@@ -6099,139 +6104,163 @@ module _ (claims· : Claims) where
                   λ k. (
                     enum-known-a record {
                       before = record {
-                        before =
-                            record {
-                              before = record {
-                                before = record {
-                                  before = record
-                                      { before = record { before = c .before; turn = c .turn }; f = record { given = g } };
-                                  slice-known3 = record
-                                      { given = g' };
-                                };
-                                t = record { given = g'' };
-                              };
-                              slice-known4 = record { given = g'3 };
+                        before = record {
+                          before = record {
+                            before = record {
+                              before = record
+                                  { before = record { before = c .before; turn = c .turn }; words = record { given = g } };
+                              slice-known3 = record
+                                  { given = g' };
                             };
-                        w = record { given = g'4 };
+                            terms = record { given = g'' };
+                          };
+                          slice-known4 = record { given = g'3 };
+                        };
+                        work = record
+                            { given = g'4 };
                       };
-                      match
-                          = record { keys2 = k };
+                      match = record { keys2 = k };
                     },
                     λ g'7. λ g'8. (
                       (
                         MutSlice.fix-len (Row.get 1 (T47 .locals) (m38 record {
                           before = record {
-                            before =
-                                record {
+                            before = record {
+                              before = record {
+                                before = record {
+                                  before = record {
+                                    before = record
+                                        { before = record { before = c .before; turn = c .turn }; words = record { given = g } };
+                                    slice-known3 = record
+                                        { given = g' };
+                                  };
+                                  terms = record { given = g'' };
+                                };
+                                slice-known4 = record { given = g'3 };
+                              };
+                              work = record
+                                  { given = g'4 };
+                            };
+                            match = record { keys2 = k };
+                          };
+                          a = record { given = g'7 };
+                        } g'8) .ptr) (Row.get 1 (T47 .locals) (m38
+                            record {
+                              before = record {
+                                before = record {
                                   before = record {
                                     before = record {
                                       before = record {
                                         before = record
-                                            { before = record { before = c .before; turn = c .turn }; f = record { given = g } };
+                                            { before = record { before = c .before; turn = c .turn }; words = record { given = g } };
                                         slice-known3 = record
                                             { given = g' };
                                       };
-                                      t = record { given = g'' };
+                                      terms = record { given = g'' };
                                     };
                                     slice-known4 = record { given = g'3 };
                                   };
-                                  w = record { given = g'4 };
+                                  work = record
+                                      { given = g'4 };
                                 };
-                            match
-                                = record { keys2 = k };
-                          };
-                          a = record { given = g'7 };
-                        } g'8) .ptr) (Row.get 1 (T47 .locals) (m38 record {
-                          before = record {
-                            before = record {
-                              before = record {
-                                before = record {
-                                  before = record {
-                                    before = record
-                                        { before = record { before = c .before; turn = c .turn }; f = record { given = g } };
-                                    slice-known3 = record
-                                        { given = g' };
-                                  };
-                                  t = record { given = g'' };
-                                };
-                                slice-known4 = record { given = g'3 };
+                                match = record { keys2 = k };
                               };
-                              w = record { given = g'4 };
-                            };
-                            match
-                                = record { keys2 = k };
-                          };
-                          a = record { given = g'7 };
-                        } g'8) .name) (Row.get 1 (T47 .locals) (m38 record {
-                          before = record {
-                            before = record {
-                              before = record {
-                                before = record {
-                                  before = record {
-                                    before = record
-                                        { before = record { before = c .before; turn = c .turn }; f = record { given = g } };
-                                    slice-known3 = record
-                                        { given = g' };
-                                  };
-                                  t = record { given = g'' };
-                                };
-                                slice-known4 = record { given = g'3 };
-                              };
-                              w = record { given = g'4 };
-                            };
-                            match
-                                = record { keys2 = k };
-                          };
-                          a = record { given = g'7 };
-                        } g'8) .now) (dens (c .before .before .before .before .before .before
-                            .before .before .κs) (c .before .before .before .before .before .before .before .before .args) .0 .now) (same-length record {
+                              a = record { given = g'7 };
+                            } g'8) .name) (Row.get 1 (T47 .locals) (m38
+                            record {
                               before = record {
                                 before = record {
                                   before = record {
                                     before = record {
                                       before = record {
-                                        before = record {
-                                          before =
-                                              record { before = record { before = c .before; turn = c .turn }; f = record { given = g } };
-                                          slice-known3 = record
-                                              { given = g' };
-                                        };
-                                        t = record { given = g'' };
+                                        before = record
+                                            { before = record { before = c .before; turn = c .turn }; words = record { given = g } };
+                                        slice-known3 = record
+                                            { given = g' };
+                                      };
+                                      terms = record { given = g'' };
+                                    };
+                                    slice-known4 = record { given = g'3 };
+                                  };
+                                  work = record
+                                      { given = g'4 };
+                                };
+                                match = record { keys2 = k };
+                              };
+                              a = record { given = g'7 };
+                            } g'8) .now) (dens (c .before .before .before
+                            .before .before .before .before .before .κs) (c .before .before .before .before .before .before .before .before .args) .0
+                            .now) (same-length record {
+                              before = record {
+                                before = record {
+                                  before = record {
+                                    before = record {
+                                      before = record {
+                                        before
+                                            = record {
+                                              before = record { before = record { before = c .before; turn = c .turn }; words = record { given = g } };
+                                              slice-known3 = record { given = g' };
+                                            };
+                                        terms = record { given = g'' };
                                       };
                                       slice-known4 = record { given = g'3 };
                                     };
-                                    w = record { given = g'4 };
+                                    work =
+                                        record { given = g'4 };
                                   };
-                                  match
-                                      = record { keys2 = k };
+                                  match = record { keys2 = k };
                                 };
                                 a = record { given = g'7 };
                               };
-                              known-told2 = record { given = g'8 };
+                              known-told2 = record
+                                  { given = g'8 };
                             }),
                         (
-                          MutSlice.fix-len (Row.get
-                              2 (T47 .locals) (m38 record {
+                          MutSlice.fix-len (Row.get 2 (T47 .locals) (m38 record {
+                            before = record {
+                              before = record {
+                                before =
+                                    record {
+                                      before = record {
+                                        before = record {
+                                          before = record
+                                              { before = record { before = c .before; turn = c .turn }; words = record { given = g } };
+                                          slice-known3 = record
+                                              { given = g' };
+                                        };
+                                        terms = record { given = g'' };
+                                      };
+                                      slice-known4 = record { given = g'3 };
+                                    };
+                                work = record
+                                    { given = g'4 };
+                              };
+                              match = record { keys2 = k };
+                            };
+                            a = record { given = g'7 };
+                          } g'8) .ptr) (Row.get 2 (T47 .locals) (m38
+                              record {
                                 before = record {
                                   before = record {
                                     before = record {
                                       before = record {
                                         before = record {
-                                          before = record { before = record { before = c .before; turn = c .turn }; f = record { given = g } };
-                                          slice-known3 =
-                                              record { given = g' };
+                                          before = record
+                                              { before = record { before = c .before; turn = c .turn }; words = record { given = g } };
+                                          slice-known3 = record
+                                              { given = g' };
                                         };
-                                        t = record { given = g'' };
+                                        terms = record { given = g'' };
                                       };
                                       slice-known4 = record { given = g'3 };
                                     };
-                                    w = record
+                                    work = record
                                         { given = g'4 };
                                   };
                                   match = record { keys2 = k };
                                 };
                                 a = record { given = g'7 };
-                              } g'8) .ptr) (Row.get 2 (T47 .locals) (m38
+                              } g'8) .name) (Row.get 2 (T47 .locals) (m38
                               record {
                                 before = record {
                                   before = record {
@@ -6239,91 +6268,93 @@ module _ (claims· : Claims) where
                                       before = record {
                                         before = record {
                                           before = record
-                                              { before = record { before = c .before; turn = c .turn }; f = record { given = g } };
+                                              { before = record { before = c .before; turn = c .turn }; words = record { given = g } };
                                           slice-known3 = record
                                               { given = g' };
                                         };
-                                        t = record { given = g'' };
+                                        terms = record { given = g'' };
                                       };
                                       slice-known4 = record { given = g'3 };
                                     };
-                                    w = record { given = g'4 };
+                                    work = record
+                                        { given = g'4 };
                                   };
-                                  match
-                                      = record { keys2 = k };
+                                  match = record { keys2 = k };
                                 };
                                 a = record { given = g'7 };
-                              } g'8) .name) (Row.get 2 (T47 .locals) (m38 record {
-                                before = record {
-                                  before = record {
-                                    before = record {
-                                      before = record {
-                                        before = record {
-                                          before = record
-                                              { before = record { before = c .before; turn = c .turn }; f = record { given = g } };
-                                          slice-known3 = record
-                                              { given = g' };
-                                        };
-                                        t = record { given = g'' };
-                                      };
-                                      slice-known4 = record { given = g'3 };
-                                    };
-                                    w = record { given = g'4 };
-                                  };
-                                  match
-                                      = record { keys2 = k };
-                                };
-                                a = record { given = g'7 };
-                              } g'8) .now) (dens (c .before .before .before .before .before .before
-                              .before .before .κs) (c .before .before .before .before .before .before .before .before .args) .1 .0 .now) (same-length-2
-                              record {
+                              } g'8) .now) (dens (c .before .before .before
+                              .before .before .before .before .before .κs) (c .before .before .before .before .before .before .before .before .args) .1 .0
+                              .now) (same-length-2 record {
                                 before = record {
                                   before = record {
                                     before = record {
                                       before = record {
                                         before = record {
                                           before = record {
-                                            before
-                                                = record { before = record { before = c .before; turn = c .turn }; f = record { given = g } };
+                                            before = record
+                                                { before = record { before = c .before; turn = c .turn }; words = record { given = g } };
                                             slice-known3 = record
                                                 { given = g' };
                                           };
-                                          t = record { given = g'' };
+                                          terms = record { given = g'' };
                                         };
                                         slice-known4 = record { given = g'3 };
                                       };
-                                      w = record { given = g'4 };
+                                      work = record
+                                          { given = g'4 };
                                     };
-                                    match
-                                        = record { keys2 = k };
+                                    match = record { keys2 = k };
                                   };
                                   a = record { given = g'7 };
                                 };
                                 known-told2 = record { given = g'8 };
                               }),
                           (
-                            MutSlice.fix-len (Row.get
-                                3 (T47 .locals) (m38 record {
+                            MutSlice.fix-len (Row.get 3 (T47 .locals) (m38 record {
+                              before = record {
+                                before = record {
+                                  before = record {
+                                    before =
+                                        record {
+                                          before = record {
+                                            before = record
+                                                { before = record { before = c .before; turn = c .turn }; words = record { given = g } };
+                                            slice-known3 = record
+                                                { given = g' };
+                                          };
+                                          terms = record { given = g'' };
+                                        };
+                                    slice-known4 = record { given = g'3 };
+                                  };
+                                  work = record
+                                      { given = g'4 };
+                                };
+                                match = record { keys2 = k };
+                              };
+                              a = record { given = g'7 };
+                            } g'8) .ptr) (Row.get 3 (T47 .locals) (m38
+                                record {
                                   before = record {
                                     before = record {
                                       before = record {
                                         before = record {
                                           before = record {
-                                            before = record { before = record { before = c .before; turn = c .turn }; f = record { given = g } };
-                                            slice-known3 =
-                                                record { given = g' };
+                                            before = record
+                                                { before = record { before = c .before; turn = c .turn }; words = record { given = g } };
+                                            slice-known3 = record
+                                                { given = g' };
                                           };
-                                          t = record { given = g'' };
+                                          terms = record { given = g'' };
                                         };
                                         slice-known4 = record { given = g'3 };
                                       };
-                                      w = record
+                                      work = record
                                           { given = g'4 };
                                     };
                                     match = record { keys2 = k };
                                   };
                                   a = record { given = g'7 };
-                                } g'8) .ptr) (Row.get 3 (T47 .locals) (m38
+                                } g'8) .name) (Row.get 3 (T47 .locals) (m38
                                 record {
                                   before = record {
                                     before = record {
@@ -6331,63 +6362,42 @@ module _ (claims· : Claims) where
                                         before = record {
                                           before = record {
                                             before = record
-                                                { before = record { before = c .before; turn = c .turn }; f = record { given = g } };
+                                                { before = record { before = c .before; turn = c .turn }; words = record { given = g } };
                                             slice-known3 = record
                                                 { given = g' };
                                           };
-                                          t = record { given = g'' };
+                                          terms = record { given = g'' };
                                         };
                                         slice-known4 = record { given = g'3 };
                                       };
-                                      w = record { given = g'4 };
+                                      work = record
+                                          { given = g'4 };
                                     };
-                                    match
-                                        = record { keys2 = k };
+                                    match = record { keys2 = k };
                                   };
                                   a = record { given = g'7 };
-                                } g'8) .name) (Row.get 3 (T47 .locals) (m38 record {
-                                  before = record {
-                                    before = record {
-                                      before = record {
-                                        before = record {
-                                          before = record {
-                                            before = record
-                                                { before = record { before = c .before; turn = c .turn }; f = record { given = g } };
-                                            slice-known3 = record
-                                                { given = g' };
-                                          };
-                                          t = record { given = g'' };
-                                        };
-                                        slice-known4 = record { given = g'3 };
-                                      };
-                                      w = record { given = g'4 };
-                                    };
-                                    match
-                                        = record { keys2 = k };
-                                  };
-                                  a = record { given = g'7 };
-                                } g'8) .now) (dens (c .before .before .before .before .before .before
-                                .before .before .κs) (c .before .before .before .before .before .before .before .before .args) .1 .1 .0 .now) (same-length-3
-                                record {
+                                } g'8) .now) (dens (c .before .before .before
+                                .before .before .before .before .before .κs) (c .before .before .before .before .before .before .before .before .args) .1 .1
+                                .0 .now) (same-length-3 record {
                                   before = record {
                                     before = record {
                                       before = record {
                                         before = record {
                                           before = record {
                                             before = record {
-                                              before
-                                                  = record { before = record { before = c .before; turn = c .turn }; f = record { given = g } };
+                                              before = record
+                                                  { before = record { before = c .before; turn = c .turn }; words = record { given = g } };
                                               slice-known3 = record
                                                   { given = g' };
                                             };
-                                            t = record { given = g'' };
+                                            terms = record { given = g'' };
                                           };
                                           slice-known4 = record { given = g'3 };
                                         };
-                                        w = record { given = g'4 };
+                                        work = record
+                                            { given = g'4 };
                                       };
-                                      match
-                                          = record { keys2 = k };
+                                      match = record { keys2 = k };
                                     };
                                     a = record { given = g'7 };
                                   };
@@ -6406,18 +6416,18 @@ module _ (claims· : Claims) where
                                     before = record {
                                       before = record {
                                         before = record
-                                            { before = record { before = c .before; turn = c .turn }; f = record { given = g } };
+                                            { before = record { before = c .before; turn = c .turn }; words = record { given = g } };
                                         slice-known3 = record
                                             { given = g' };
                                       };
-                                      t = record { given = g'' };
+                                      terms = record { given = g'' };
                                     };
                                     slice-known4 = record { given = g'3 };
                                   };
-                              w = record { given = g'4 };
+                              work = record
+                                  { given = g'4 };
                             };
-                            match
-                                = record { keys2 = k };
+                            match = record { keys2 = k };
                           };
                           a = record { given = g'7 };
                         };
@@ -6427,26 +6437,25 @@ module _ (claims· : Claims) where
                   ),
                   (
                     λ k. (
-                      enum-known-s1-2
-                          record {
+                      enum-known-s1-2 record {
+                        before = record {
+                          before = record {
                             before = record {
                               before = record {
-                                before = record {
-                                  before = record {
-                                    before = record
-                                        { before = record { before = c .before; turn = c .turn }; f = record { given = g } };
-                                    slice-known3 = record
-                                        { given = g' };
-                                  };
-                                  t = record { given = g'' };
-                                };
-                                slice-known4 = record { given = g'3 };
+                                before = record
+                                    { before = record { before = c .before; turn = c .turn }; words = record { given = g } };
+                                slice-known3 = record
+                                    { given = g' };
                               };
-                              w = record { given = g'4 };
+                              terms = record { given = g'' };
                             };
-                            match
-                                = record { keys3 = k };
-                          },
+                            slice-known4 = record { given = g'3 };
+                          };
+                          work = record
+                              { given = g'4 };
+                        };
+                        match = record { keys3 = k };
+                      },
                       λ g'9. λ g'10. λ g'11. (
                         Path'.refl,
                         λ g'12. (
@@ -6454,205 +6463,98 @@ module _ (claims· : Claims) where
                           λ g'13. (
                             Path'.refl,
                             (
-                              left-or-requires
-                                  record {
+                              left-or-requires record {
+                                before = record {
+                                  before = record {
                                     before = record {
                                       before = record {
-                                        before = record {
-                                          before = record {
-                                            before = record {
+                                        before =
+                                            record {
                                               before = record {
-                                                before
-                                                    = record {
-                                                      before = record {
-                                                        before = record {
-                                                          before = record
-                                                              { before = record { before = c .before; turn = c .turn }; f = record { given = g } };
-                                                          slice-known3 = record
-                                                              { given = g' };
-                                                        };
-                                                        t = record { given = g'' };
-                                                      };
-                                                      slice-known4 = record { given = g'3 };
+                                                before = record {
+                                                  before = record {
+                                                    before = record {
+                                                      before = record
+                                                          { before = record { before = c .before; turn = c .turn }; words = record { given = g } };
+                                                      slice-known3 = record
+                                                          { given = g' };
                                                     };
-                                                w = record { given = g'4 };
+                                                    terms = record { given = g'' };
+                                                  };
+                                                  slice-known4 = record { given = g'3 };
+                                                };
+                                                work = record
+                                                    { given = g'4 };
                                               };
-                                              match
-                                                  = record { keys3 = k };
+                                              match = record { keys3 = k };
                                             };
-                                            s12 = record { given = g'9 };
-                                          };
-                                          known-told3 = record { given = g'10 };
-                                        };
-                                        left-or-arg = record
-                                            { given = g'11 };
+                                        s12 = record { given = g'9 };
                                       };
-                                      left-or-arg2 = record { given = g'12 };
+                                      known-told3 = record { given = g'10 };
                                     };
-                                    left-or-arg3 = record { given = g'13 };
-                                  },
+                                    left-or-arg = record { given = g'11 };
+                                  };
+                                  left-or-arg2 = record { given = g'12 };
+                                };
+                                left-or-arg3 = record { given = g'13 };
+                              },
                               λ g'14. lay2 record {
                                 before = record {
                                   before = record {
                                     before = record {
                                       before = record {
                                         before = record {
-                                          before = record {
-                                            before =
-                                                record {
+                                          before =
+                                              record {
+                                                before = record {
                                                   before = record {
                                                     before = record {
                                                       before = record {
                                                         before = record
-                                                            { before = record { before = c .before; turn = c .turn }; f = record { given = g } };
+                                                            { before = record { before = c .before; turn = c .turn }; words = record { given = g } };
                                                         slice-known3 = record
                                                             { given = g' };
                                                       };
-                                                      t = record { given = g'' };
+                                                      terms = record { given = g'' };
                                                     };
                                                     slice-known4 = record { given = g'3 };
                                                   };
-                                                  w = record { given = g'4 };
+                                                  work = record
+                                                      { given = g'4 };
                                                 };
-                                            match
-                                                = record { keys3 = k };
-                                          };
+                                                match = record { keys3 = k };
+                                              };
                                           s12 = record { given = g'9 };
                                         };
                                         known-told3 = record { given = g'10 };
                                       };
-                                      left-or-arg = record
-                                          { given = g'11 };
+                                      left-or-arg = record { given = g'11 };
                                     };
                                     left-or-arg2 = record { given = g'12 };
                                   };
                                   left-or-arg3 = record { given = g'13 };
                                 };
-                                left-or =
-                                    Called.called ps·1 r·1 (claims· .3) T61 (
-                                      record { pos = 25; ty = Syntax.tyRef Syntax.erased Syntax.mut y5; ref = λ x. x },
+                                left-or = Called.called ps·1 r·1 (claims· .3) T61 (
+                                  record
+                                      { pos = 25; ty = Syntax.tyRef Syntax.erased Syntax.mut y5; ref = λ x. x },
+                                  (
+                                    record
+                                        { pos = 27; ty = Syntax.tyRef Syntax.erased Syntax.mut y8; ref = λ x. x },
+                                    (
+                                      record
+                                          { pos = 29; ty = Syntax.tyRef Syntax.erased Syntax.mut Element.named; ref = λ x. x },
                                       (
-                                        record { pos = 27; ty = Syntax.tyRef Syntax.erased Syntax.mut y8; ref = λ x. x },
+                                        record
+                                            { pos = 4; ty = Syntax.tyRef (Syntax.named 3) Syntax.imm (Syntax.tyInt Syntax.w8); ref = λ x. x },
                                         (
                                           record
-                                              { pos = 29; ty = Syntax.tyRef Syntax.erased Syntax.mut Element.named; ref = λ x. x },
-                                          (
-                                            record
-                                                { pos = 4; ty = Syntax.tyRef (Syntax.named 3) Syntax.imm (Syntax.tyInt Syntax.w8); ref = λ x. x },
-                                            (
-                                              record
-                                                  { pos = 5; st = []; d = 0; at = λ x. x },
-                                              (record { pos = 13; st = []; d = 0; at = λ x. x }, (record { pos = 14; st = []; d = 0; at = λ x. x }, tt)),
-                                            ),
-                                          ),
+                                              { pos = 5; st = []; d = 0; at = λ x. x },
+                                          (record { pos = 13; st = []; d = 0; at = λ x. x }, (record { pos = 14; st = []; d = 0; at = λ x. x }, tt)),
                                         ),
                                       ),
-                                    ) (m49 record {
-                                      before = record {
-                                        before = record {
-                                          before = record {
-                                            before = record {
-                                              before = record {
-                                                before = record {
-                                                  before =
-                                                      record {
-                                                        before = record {
-                                                          before = record
-                                                              { before = record { before = c .before; turn = c .turn }; f = record { given = g } };
-                                                          slice-known3 = record
-                                                              { given = g' };
-                                                        };
-                                                        t = record { given = g'' };
-                                                      };
-                                                  slice-known4 = record { given = g'3 };
-                                                };
-                                                w = record { given = g'4 };
-                                              };
-                                              match
-                                                  = record { keys3 = k };
-                                            };
-                                            s12 = record { given = g'9 };
-                                          };
-                                          known-told3 = record { given = g'10 };
-                                        };
-                                        left-or-arg = record
-                                            { given = g'11 };
-                                      };
-                                      left-or-arg2 = record { given = g'12 };
-                                    } g'13) g'14;
-                              },
-                            ),
-                          ),
-                        ),
-                      ),
-                    ),
-                    (
-                      λ k. (
-                        enum-known-s1-3 record {
-                          before =
-                              record {
-                                before = record {
-                                  before = record {
-                                    before = record {
-                                      before = record
-                                          { before = record { before = c .before; turn = c .turn }; f = record { given = g } };
-                                      slice-known3 = record
-                                          { given = g' };
-                                    };
-                                    t = record { given = g'' };
-                                  };
-                                  slice-known4 = record { given = g'3 };
-                                };
-                                w = record { given = g'4 };
-                              };
-                          match
-                              = record { keys4 = k };
-                        },
-                        λ g'15. λ g'16. λ g'17. (
-                          Path'.refl,
-                          λ g'18. (
-                            Path'.refl,
-                            λ g'19. (
-                              Path'.refl,
-                              (
-                                search-requires
-                                    record {
-                                      before = record {
-                                        before = record {
-                                          before = record {
-                                            before = record {
-                                              before = record {
-                                                before = record {
-                                                  before
-                                                      = record {
-                                                        before = record {
-                                                          before = record {
-                                                            before = record
-                                                                { before = record { before = c .before; turn = c .turn }; f = record { given = g } };
-                                                            slice-known3 = record
-                                                                { given = g' };
-                                                          };
-                                                          t = record { given = g'' };
-                                                        };
-                                                        slice-known4 = record { given = g'3 };
-                                                      };
-                                                  w = record { given = g'4 };
-                                                };
-                                                match
-                                                    = record { keys4 = k };
-                                              };
-                                              s13 = record { given = g'15 };
-                                            };
-                                            known-told4 = record { given = g'16 };
-                                          };
-                                          search-arg = record
-                                              { given = g'17 };
-                                        };
-                                        search-arg2 = record { given = g'18 };
-                                      };
-                                      search-arg3 = record { given = g'19 };
-                                    },
-                                λ g'20. lay3 record {
+                                    ),
+                                  ),
+                                ) (m49 record {
                                   before = record {
                                     before = record {
                                       before = record {
@@ -6662,36 +6564,138 @@ module _ (claims· : Claims) where
                                               before =
                                                   record {
                                                     before = record {
+                                                      before = record
+                                                          { before = record { before = c .before; turn = c .turn }; words = record { given = g } };
+                                                      slice-known3 = record
+                                                          { given = g' };
+                                                    };
+                                                    terms = record { given = g'' };
+                                                  };
+                                              slice-known4 = record { given = g'3 };
+                                            };
+                                            work = record
+                                                { given = g'4 };
+                                          };
+                                          match = record { keys3 = k };
+                                        };
+                                        s12 = record { given = g'9 };
+                                      };
+                                      known-told3 = record { given = g'10 };
+                                    };
+                                    left-or-arg = record { given = g'11 };
+                                  };
+                                  left-or-arg2 = record { given = g'12 };
+                                } g'13) g'14;
+                              },
+                            ),
+                          ),
+                        ),
+                      ),
+                    ),
+                    (
+                      λ k. (
+                        enum-known-s1-3
+                            record {
+                              before = record {
+                                before = record {
+                                  before = record {
+                                    before = record {
+                                      before = record
+                                          { before = record { before = c .before; turn = c .turn }; words = record { given = g } };
+                                      slice-known3 = record
+                                          { given = g' };
+                                    };
+                                    terms = record { given = g'' };
+                                  };
+                                  slice-known4 = record { given = g'3 };
+                                };
+                                work = record
+                                    { given = g'4 };
+                              };
+                              match = record { keys4 = k };
+                            },
+                        λ g'15. λ g'16. λ g'17. (
+                          Path'.refl,
+                          λ g'18. (
+                            Path'.refl,
+                            λ g'19. (
+                              Path'.refl,
+                              (
+                                search-requires record {
+                                  before = record {
+                                    before = record {
+                                      before = record {
+                                        before = record {
+                                          before =
+                                              record {
+                                                before = record {
+                                                  before = record {
+                                                    before = record {
+                                                      before = record {
+                                                        before = record
+                                                            { before = record { before = c .before; turn = c .turn }; words = record { given = g } };
+                                                        slice-known3 = record
+                                                            { given = g' };
+                                                      };
+                                                      terms = record { given = g'' };
+                                                    };
+                                                    slice-known4 = record { given = g'3 };
+                                                  };
+                                                  work = record
+                                                      { given = g'4 };
+                                                };
+                                                match = record { keys4 = k };
+                                              };
+                                          s13 = record { given = g'15 };
+                                        };
+                                        known-told4 = record { given = g'16 };
+                                      };
+                                      search-arg = record { given = g'17 };
+                                    };
+                                    search-arg2 = record { given = g'18 };
+                                  };
+                                  search-arg3 = record { given = g'19 };
+                                },
+                                λ
+                                    g'20. lay3 record {
+                                      before = record {
+                                        before = record {
+                                          before = record {
+                                            before = record {
+                                              before = record {
+                                                before =
+                                                    record {
                                                       before = record {
                                                         before = record {
-                                                          before = record
-                                                              { before = record { before = c .before; turn = c .turn }; f = record { given = g } };
-                                                          slice-known3 = record
-                                                              { given = g' };
+                                                          before = record {
+                                                            before = record {
+                                                              before = record
+                                                                  { before = record { before = c .before; turn = c .turn }; words = record { given = g } };
+                                                              slice-known3 = record
+                                                                  { given = g' };
+                                                            };
+                                                            terms = record { given = g'' };
+                                                          };
+                                                          slice-known4 = record { given = g'3 };
                                                         };
-                                                        t = record { given = g'' };
+                                                        work = record
+                                                            { given = g'4 };
                                                       };
-                                                      slice-known4 = record { given = g'3 };
+                                                      match = record { keys4 = k };
                                                     };
-                                                    w = record { given = g'4 };
-                                                  };
-                                              match
-                                                  = record { keys4 = k };
+                                                s13 = record { given = g'15 };
+                                              };
+                                              known-told4 = record { given = g'16 };
                                             };
-                                            s13 = record { given = g'15 };
+                                            search-arg = record { given = g'17 };
                                           };
-                                          known-told4 = record { given = g'16 };
+                                          search-arg2 = record { given = g'18 };
                                         };
-                                        search-arg = record
-                                            { given = g'17 };
+                                        search-arg3 = record { given = g'19 };
                                       };
-                                      search-arg2 = record { given = g'18 };
-                                    };
-                                    search-arg3 = record { given = g'19 };
-                                  };
-                                  search = Called.called
-                                      ps·2 r·2 (claims· .5) T90 (
-                                        record { pos = 31; ty = Syntax.tyRef Syntax.erased Syntax.mut y5; ref = λ x. x },
+                                      search = Called.called ps·2 r·2 (claims· .5) T90 (
+                                        record
+                                            { pos = 31; ty = Syntax.tyRef Syntax.erased Syntax.mut y5; ref = λ x. x },
                                         (
                                           record
                                               { pos = 33; ty = Syntax.tyRef Syntax.erased Syntax.mut y8; ref = λ x. x },
@@ -6720,49 +6724,48 @@ module _ (claims· : Claims) where
                                                         record {
                                                           before = record {
                                                             before = record
-                                                                { before = record { before = c .before; turn = c .turn }; f = record { given = g } };
+                                                                { before = record { before = c .before; turn = c .turn }; words = record { given = g } };
                                                             slice-known3 = record
                                                                 { given = g' };
                                                           };
-                                                          t = record { given = g'' };
+                                                          terms = record { given = g'' };
                                                         };
                                                     slice-known4 = record { given = g'3 };
                                                   };
-                                                  w = record { given = g'4 };
+                                                  work = record
+                                                      { given = g'4 };
                                                 };
-                                                match
-                                                    = record { keys4 = k };
+                                                match = record { keys4 = k };
                                               };
                                               s13 = record { given = g'15 };
                                             };
                                             known-told4 = record { given = g'16 };
                                           };
-                                          search-arg = record
-                                              { given = g'17 };
+                                          search-arg = record { given = g'17 };
                                         };
                                         search-arg2 = record { given = g'18 };
                                       } g'19) g'20;
-                                },
+                                    },
                               ),
                             ),
                           ),
                         ),
                       ),
-                      Match.each-below 4 (λ j. (((Unit {0} ×
-                          (Run.OneOf (0 ∷ []) j → ⊥)) × (Run.OneOf (1 ∷ []) j → ⊥)) × (Run.OneOf (2 ∷ []) j → ⊥)) × (Run.OneOf (3 ∷ []) j → ⊥) → ⊥) (
-                            λ
-                                n. n .1 Path'.refl,
+                      Match.each-below 4 (λ j.
+                          (((Unit {0} × (Run.OneOf (0 ∷ []) j → ⊥)) × (Run.OneOf (1 ∷ []) j → ⊥)) × (Run.OneOf (2 ∷ []) j → ⊥)) × (Run.OneOf (3 ∷
+                          []) j → ⊥) → ⊥) (
+                            λ n. n .1 Path'.refl,
                             (λ n. n .0 .1 Path'.refl, (λ n. n .0 .0 .1 Path'.refl, (λ n. n .0 .0 .0 .1 Path'.refl, tt))),
-                          )
-                          (Declared.tagOf Next.the-type (Row.get 17 (T30 .locals) (m22 record {
+                          ) (Declared.tagOf Next.the-type
+                          (Row.get 17 (T30 .locals) (m22 record {
                             before = record {
                               before = record {
                                 before = record
-                                    { before = record { before = c .before; turn = c .turn }; f = record { given = g } };
+                                    { before = record { before = c .before; turn = c .turn }; words = record { given = g } };
                                 slice-known3 = record
                                     { given = g' };
                               };
-                              t = record { given = g'' };
+                              terms = record { given = g'' };
                             };
                             slice-known4 = record { given = g'3 };
                           } g'4))) (Match.tag-small
@@ -6770,11 +6773,11 @@ module _ (claims· : Claims) where
                             before = record {
                               before = record {
                                 before = record
-                                    { before = record { before = c .before; turn = c .turn }; f = record { given = g } };
+                                    { before = record { before = c .before; turn = c .turn }; words = record { given = g } };
                                 slice-known3 = record
                                     { given = g' };
                               };
-                              t = record { given = g'' };
+                              terms = record { given = g'' };
                             };
                             slice-known4 = record { given = g'3 };
                           } g'4))),
@@ -6827,38 +6830,36 @@ module _ (claims· : Claims) where
                             shared-slice-known = record { given = g'' };
                           };
                           loop = record
-                              { f = vs .0; t = vs .1; w = vs .2; s = vs .3; p = vs .4; inv = inv };
+                              { words = vs .0; terms = vs .1; work = vs .2; s = vs .3; p = vs .4; inv = inv };
                         };
                         turn-arg = record { given = g'3 };
                       };
-                      turn-arg2 =
-                          record { given = g'4 };
+                      turn-arg2 = record { given = g'4 };
                     };
                     turn-arg3 = record { given = g'5 };
                   },
                   λ g'6. lay1 record {
                     before = record {
-                      before = record {
-                        before = record {
-                          before = record {
+                      before =
+                          record {
                             before = record {
-                              before = record
-                                  { before = record { before = c; slice-known = record { given = g } }; slice-known2 = record { given = g' } };
-                              shared-slice-known = record { given = g'' };
+                              before = record {
+                                before = record {
+                                  before = record
+                                      { before = record { before = c; slice-known = record { given = g } }; slice-known2 = record { given = g' } };
+                                  shared-slice-known = record { given = g'' };
+                                };
+                                loop = record
+                                    { words = vs .0; terms = vs .1; work = vs .2; s = vs .3; p = vs .4; inv = inv };
+                              };
+                              turn-arg = record { given = g'3 };
                             };
-                            loop = record
-                                { f = vs .0; t = vs .1; w = vs .2; s = vs .3; p = vs .4; inv = inv };
+                            turn-arg2 = record { given = g'4 };
                           };
-                          turn-arg = record { given = g'3 };
-                        };
-                        turn-arg2 =
-                            record { given = g'4 };
-                      };
                       turn-arg3 = record { given = g'5 };
                     };
                     turn = Called.called ps·0 r·0 (claims· .1) T17 (
-                      record
-                          { pos = 19; ty = Syntax.tyRef Syntax.erased Syntax.mut y5; ref = λ x. x },
+                      record { pos = 19; ty = Syntax.tyRef Syntax.erased Syntax.mut y5; ref = λ x. x },
                       (
                         record
                             { pos = 21; ty = Syntax.tyRef Syntax.erased Syntax.mut y8; ref = λ x. x },
@@ -6885,12 +6886,11 @@ module _ (claims· : Claims) where
                             shared-slice-known = record { given = g'' };
                           };
                           loop = record
-                              { f = vs .0; t = vs .1; w = vs .2; s = vs .3; p = vs .4; inv = inv };
+                              { words = vs .0; terms = vs .1; work = vs .2; s = vs .3; p = vs .4; inv = inv };
                         };
                         turn-arg = record { given = g'3 };
                       };
-                      turn-arg2 =
-                          record { given = g'4 };
+                      turn-arg2 = record { given = g'4 };
                     } g'5) g'6;
                   },
                 ),
@@ -6905,21 +6905,22 @@ module _ (claims· : Claims) where
           asked = λ a good pre bs. laid record {
             κs = κs;
             args = record {
-              f = a .0;
-              t = a .1 .0;
-              w = a .1 .1 .0;
-              k = a .1 .1 .1 .0;
-              m =
-                  a .1 .1 .1 .1 .0;
-              st = a .1 .1 .1 .1 .1 .0;
-              q = a .1 .1 .1 .1 .1 .1 .0;
+              words = a .0;
+              terms = a .1 .0;
+              work = a .1 .1 .0;
+              names = a .1
+                  .1 .1 .0;
+              limits = a .1 .1 .1 .1 .0;
+              state = a .1 .1 .1 .1 .1 .0;
+              sequent = a .1 .1 .1 .1 .1 .1 .0;
             };
             good = good;
-            pre = pre;
+            pre =
+                pre;
           }
 
         module _ {M : Type 1} (𝓤 : URA.URA M) (H : Wp.Heap 𝓤) (A : Atoms.Atoms 𝓤) (W : Kit.Given 𝓤 H A) (𝓣 : Wp.Tables 𝓤 H) (known0 :
-            Plain.Known 𝓤 H A W 𝓣 4 ps·0 r·0 (claims· .0) (claims· .1) "rules::turn") (known1 : Plain.Known 𝓤 H A W 𝓣 4 ps·1 r·1
+            Plain.Known 𝓤 H A W 𝓣 4 ps·0 r·0 (claims· .0) (claims· .1) "search_left::turn") (known1 : Plain.Known 𝓤 H A W 𝓣 4 ps·1 r·1
             (claims· .2) (claims· .3) "prove::left_or") (known2 : Plain.Known 𝓤 H A W 𝓣 4 ps·2 r·2 (claims· .4) (claims· .5)
             "prove::search") where
           pub spec : Statement.Triple 𝓤 (Wp.WpFn 𝓤 H (𝓣 .C) (𝓣 .Λ) (Function.fnOf 4 ps r xs m hs body)) (Function.plainOf 𝓤 H A 4 ps r

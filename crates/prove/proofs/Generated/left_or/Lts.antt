@@ -1,14 +1,14 @@
 -- Made by tools/records.py from the sources; antt refuses it where it is stale. Assumes nothing.
 use Prim.Native.Nat
-use Rattle.context.proofs.Answer
-use Rattle.context.proofs.Answer.Laws
 use Rattle.context.proofs.Element
-use Rattle.context.proofs.Limits
-use Rattle.context.proofs.Limits.Laws as Laws'
-use Rattle.context.proofs.Sequent
-use Rattle.context.proofs.Sequent.Laws as Laws''
-use Rattle.context.proofs.State
-use Rattle.context.proofs.State.Laws as Laws'3
+use Rattle.meter.proofs.Answer
+use Rattle.meter.proofs.Answer.Laws
+use Rattle.meter.proofs.Limits
+use Rattle.meter.proofs.Limits.Laws as Laws'
+use Rattle.meter.proofs.Sequent
+use Rattle.meter.proofs.Sequent.Laws as Laws''
+use Rattle.meter.proofs.State
+use Rattle.meter.proofs.State.Laws as Laws'3
 use borrow.Author.Called
 use borrow.Enum.Known
 use borrow.Enum.Make
@@ -75,8 +75,8 @@ abbrev y0 : Syntax.Ty
 y0 = Syntax.tyInt Syntax.w64
 
 abbrev y1 : Syntax.Ty
-y1 = Syntax.tyStruct (99 ∷ 111 ∷ 110 ∷ 116 ∷ 101 ∷ 120 ∷ 116 ∷ 58 ∷ 58 ∷ 83 ∷ 116 ∷ 97 ∷ 116 ∷ 101 ∷ []) (Syntax.tcons y0 (Syntax.tcons
-    y0 (Syntax.tcons y0 (Syntax.tcons y0 Syntax.tnil))))
+y1 = Syntax.tyStruct (109 ∷ 101 ∷ 116 ∷ 101 ∷ 114 ∷ 58 ∷ 58 ∷ 83 ∷ 116 ∷ 97 ∷ 116 ∷ 101 ∷ []) (Syntax.tcons y0 (Syntax.tcons y0
+    (Syntax.tcons y0 (Syntax.tcons y0 Syntax.tnil))))
 
 abbrev y2 : Syntax.Ty
 y2 = Syntax.tyRef Syntax.erased Syntax.imm Element.named
@@ -85,9 +85,9 @@ abbrev y3 : Syntax.Ty
 y3 = Syntax.tyStruct (38 ∷ 91 ∷ 93 ∷ []) (Syntax.tcons y2 (Syntax.tcons y0 Syntax.tnil))
 
 abbrev y4 : Syntax.Ty
-y4 = Syntax.tyEnum (99 ∷ 111 ∷ 110 ∷ 116 ∷ 101 ∷ 120 ∷ 116 ∷ 58 ∷ 58 ∷ 65 ∷ 110 ∷ 115 ∷ 119 ∷ 101 ∷ 114 ∷ []) (Syntax.ttcons
-    (Syntax.tcons y0 (Syntax.tcons y1 Syntax.tnil)) (Syntax.ttcons (Syntax.tcons y1 Syntax.tnil) (Syntax.ttcons (Syntax.tcons y0
-    (Syntax.tcons y1 Syntax.tnil)) Syntax.ttnil)))
+y4 = Syntax.tyEnum (109 ∷ 101 ∷ 116 ∷ 101 ∷ 114 ∷ 58 ∷ 58 ∷ 65 ∷ 110 ∷ 115 ∷ 119 ∷ 101 ∷ 114 ∷ []) (Syntax.ttcons (Syntax.tcons y0
+    (Syntax.tcons y1 Syntax.tnil)) (Syntax.ttcons (Syntax.tcons y1 Syntax.tnil) (Syntax.ttcons (Syntax.tcons y0 (Syntax.tcons y1
+    Syntax.tnil)) Syntax.ttnil)))
 
 abbrev y5 : Syntax.Ty
 y5 = Syntax.tyInt Syntax.w32
@@ -294,8 +294,8 @@ abbrev y72 : Row.Entry
 y72 = (0, Rows.whole (Declared.row Answer.the-type))
 
 abbrev y73 : Syntax.Ty
-y73 = Syntax.tyStruct (99 ∷ 111 ∷ 110 ∷ 116 ∷ 101 ∷ 120 ∷ 116 ∷ 58 ∷ 58 ∷ 76 ∷ 105 ∷ 109 ∷ 105 ∷ 116 ∷ 115 ∷ []) (Syntax.tcons y0
-    (Syntax.tcons y0 (Syntax.tcons y0 (Syntax.tcons y0 Syntax.tnil))))
+y73 = Syntax.tyStruct (109 ∷ 101 ∷ 116 ∷ 101 ∷ 114 ∷ 58 ∷ 58 ∷ 76 ∷ 105 ∷ 109 ∷ 105 ∷ 116 ∷ 115 ∷ []) (Syntax.tcons y0 (Syntax.tcons y0
+    (Syntax.tcons y0 (Syntax.tcons y0 Syntax.tnil))))
 
 abbrev y74 : Row.Entry
 y74 = (5, Rows.any-gone y73)
@@ -304,7 +304,7 @@ abbrev y75 : Row.Entry
 y75 = (6, Rows.any-gone y1)
 
 abbrev y76 : Syntax.Ty
-y76 = Syntax.tyStruct (99 ∷ 111 ∷ 110 ∷ 116 ∷ 101 ∷ 120 ∷ 116 ∷ 58 ∷ 58 ∷ 83 ∷ 101 ∷ 113 ∷ 117 ∷ 101 ∷ 110 ∷ 116 ∷ []) (Syntax.tcons y0
+y76 = Syntax.tyStruct (109 ∷ 101 ∷ 116 ∷ 101 ∷ 114 ∷ 58 ∷ 58 ∷ 83 ∷ 101 ∷ 113 ∷ 117 ∷ 101 ∷ 110 ∷ 116 ∷ []) (Syntax.tcons y0
     (Syntax.tcons y0 (Syntax.tcons y0 (Syntax.tcons y0 Syntax.tnil))))
 
 abbrev y77 : Row.Entry
@@ -886,9 +886,10 @@ b36 = Syntax.assign (Syntax.place 52 []) (Syntax.op2 (Syntax.add Syntax.unsigned
     14 [])))
 
 abbrev b37 : Syntax.Body
-b37 = Syntax.call "rules::close" ((Syntax.copy (Syntax.place 50 [])) ∷ (Syntax.copy (Syntax.place 5 [])) ∷ (Syntax.copy (Syntax.place 16
-    [])) ∷ (Syntax.int Syntax.w64 9) ∷ (Syntax.copy (Syntax.place 10 [])) ∷ (Syntax.copy (Syntax.place 51 [])) ∷ (Syntax.copy
-    (Syntax.place 12 [])) ∷ (Syntax.copy (Syntax.place 52 [])) ∷ (Syntax.copy (Syntax.place 15 [])) ∷ []) (Syntax.place 48 [])
+b37 = Syntax.call "search_left::close" ((Syntax.copy (Syntax.place 50 [])) ∷ (Syntax.copy (Syntax.place 5 [])) ∷ (Syntax.copy
+    (Syntax.place 16 [])) ∷ (Syntax.int Syntax.w64 9) ∷ (Syntax.copy (Syntax.place 10 [])) ∷ (Syntax.copy (Syntax.place 51 [])) ∷
+    (Syntax.copy (Syntax.place 12 [])) ∷ (Syntax.copy (Syntax.place 52 [])) ∷ (Syntax.copy (Syntax.place 15 [])) ∷ []) (Syntax.place 48
+    [])
 
 abbrev b38 : Syntax.Body
 b38 = Syntax.seq b36 b37
@@ -2290,8 +2291,8 @@ module _ (claims· : Claims) where
           Plain.Known 𝓤 H A W 𝓣 1 ps·3 r·3 (claims· .6) (claims· .7) "identifier_generator::fresh") (known4 : Plain.Known 𝓤 H A W 𝓣 1
           ps·4 r·4 (claims· .8) (claims· .9) "formula::left") (known5 : Plain.Known 𝓤 H A W 𝓣 4 ps·5 r·5 (claims· .10) (claims· .11)
           "prove::branch") (known6 : Plain.Known 𝓤 H A W 𝓣 1 ps·6 r·6 (claims· .12) (claims· .13) "formula::right") (known7 :
-          Plain.Known 𝓤 H A W 𝓣 1 ps·7 r·7 (claims· .14) (claims· .15) "rules::close") → Statement.Triple 𝓤 (Wp.WpFn 𝓤 H (𝓣 .C) (𝓣 .Λ)
-          (Function.fnOf 4 ps r xs m hs body)) (Function.plainOf 𝓤 H A 4 ps r Pre· Post·)
+          Plain.Known 𝓤 H A W 𝓣 1 ps·7 r·7 (claims· .14) (claims· .15) "search_left::close") → Statement.Triple 𝓤 (Wp.WpFn 𝓤 H (𝓣 .C) (𝓣
+          .Λ) (Function.fnOf 4 ps r xs m hs body)) (Function.plainOf 𝓤 H A 4 ps r Pre· Post·)
 
     module _ where
       abbrev at0 : Typed.TF T103 O2
@@ -2731,7 +2732,7 @@ module _ (claims· : Claims) where
             Plain.Known 𝓤 H A W 𝓣 1 ps·3 r·3 (claims· .6) (claims· .7) "identifier_generator::fresh" × Plain.Known 𝓤 H A W 𝓣 1 ps·4 r·4
             (claims· .8) (claims· .9) "formula::left" × Plain.Known 𝓤 H A W 𝓣 4 ps·5 r·5 (claims· .10) (claims· .11) "prove::branch" ×
             Plain.Known 𝓤 H A W 𝓣 1 ps·6 r·6 (claims· .12) (claims· .13) "formula::right" × Plain.Known 𝓤 H A W 𝓣 1 ps·7 r·7 (claims·
-            .14) (claims· .15) "rules::close"
+            .14) (claims· .15) "search_left::close"
 
       module _ (κs : Lifetimes.Lfts 4) (qs : Lifetimes.Shares 4) where
         abbrev g6 : List.List Row.Entry
@@ -3545,7 +3546,7 @@ module _ (claims· : Claims) where
               s101 (Typed.pass T105 T106 s102 Ψ))) (Typed.pass T106 T107 s103) (Typed.g-post 𝓤 H A W 𝓣 E G103 G105 G106 b37 (λ Ψ.
               Typed.both s100 (Typed.pass T104 T105 s101 Ψ)) (Typed.pass T105 T106 s102) (Typed.g-post 𝓤 H A W 𝓣 E G103 G104 G105 b37
               (Typed.both s100) (Typed.pass T104 T105 s101) (Plain.t-call-plain 𝓤 H A W 𝓣 1 ps·7 r·7 (claims· .14) (claims· .15)
-              "rules::close" (known .7) E (λ pos β. β) G103 (
+              "search_left::close" (known .7) E (λ pos β. β) G103 (
                 record
                     { pos = 50; ty = Syntax.tyRef Syntax.erased Syntax.mut y8; ref = λ x. x },
                 (
@@ -5943,31 +5944,32 @@ module _ (claims· : Claims) where
 
       module _ (κs : Lifetimes.Lfts 4) where
         pub record Args : Type 0 where
-          pub f : Kinds.Den {n = 4} κs (MutSlice.pMutS (Referent.rtF (Referent.fInt Syntax.w32)) 0 tt)
-          pub t : Kinds.Den {n = 4} κs (MutSlice.pMutS (Referent.rtF (Referent.fInt Syntax.w16)) 1 tt)
-          pub w : Kinds.Den {n = 4} κs (MutSlice.pMutS Element.row 2 tt)
-          pub k : Kinds.Den {n = 4} κs (ShrSlice.pShrS (Referent.rtF (Referent.fInt Syntax.w8)) 3 tt)
-          pub m : Kinds.Den {n = 4} κs (Value.pVal record {
+          pub words : Kinds.Den {n = 4} κs (MutSlice.pMutS (Referent.rtF (Referent.fInt Syntax.w32)) 0 tt)
+          pub terms : Kinds.Den {n = 4} κs (MutSlice.pMutS (Referent.rtF (Referent.fInt Syntax.w16)) 1 tt)
+          pub work : Kinds.Den {n = 4} κs (MutSlice.pMutS Element.row 2 tt)
+          pub names : Kinds.Den {n = 4} κs (ShrSlice.pShrS (Referent.rtF (Referent.fInt Syntax.w8)) 3 tt)
+          pub limits : Kinds.Den {n = 4} κs (Value.pVal record {
             ty = Declared'.row Limits.the-type;
             one = Path'.refl;
-            val = Laws'5.val
-                Limits.the-type Laws'.the-laws;
+            val =
+                Laws'5.val Limits.the-type Laws'.the-laws;
             tells = Laws'5.tells Limits.the-type Laws'.the-laws;
-            still = Laws'5.still Limits.the-type
-                Laws'.the-copy Exit.yes;
+            still = Laws'5.still
+                Limits.the-type Laws'.the-copy Exit.yes;
             row = Rows.whole (Declared'.row Limits.the-type);
             rd = λ x. x;
             mk = λ x. x;
-          } λ M 𝓤 H A W. record {
-            copies = Laws'5.copy Limits.the-type Laws'.the-copy 𝓤 H A W;
-            lawful = Laws'5.lawful Limits.the-type Laws'.the-laws 𝓤 H A
-                W;
-            makes = Laws'5.makes Limits.the-type Laws'.the-plain 𝓤 H A;
-            in-mem = Local.mem-whole 𝓤 H A W (Declared'.row
-                Limits.the-type);
-            of-mem = Local.whole-mem 𝓤 H A W (Declared'.row Limits.the-type);
-          })
-          pub st : Kinds.Den {n = 4} κs (Value.pVal record {
+          } λ M
+              𝓤 H A W. record {
+                copies = Laws'5.copy Limits.the-type Laws'.the-copy 𝓤 H A W;
+                lawful = Laws'5.lawful Limits.the-type
+                    Laws'.the-laws 𝓤 H A W;
+                makes = Laws'5.makes Limits.the-type Laws'.the-plain 𝓤 H A;
+                in-mem = Local.mem-whole 𝓤 H A W
+                    (Declared'.row Limits.the-type);
+                of-mem = Local.whole-mem 𝓤 H A W (Declared'.row Limits.the-type);
+              })
+          pub state : Kinds.Den {n = 4} κs (Value.pVal record {
             ty = Declared'.row State.the-type;
             one = Path'.refl;
             val = Laws'5.val
@@ -5987,11 +5989,11 @@ module _ (claims· : Claims) where
                 State.the-type);
             of-mem = Local.whole-mem 𝓤 H A W (Declared'.row State.the-type);
           })
-          pub q : Kinds.Den {n = 4} κs (Value.pVal record {
+          pub sequent : Kinds.Den {n = 4} κs (Value.pVal record {
             ty = Declared'.row Sequent.the-type;
             one = Path'.refl;
-            val = Laws'5.val
-                Sequent.the-type Laws''.the-laws;
+            val =
+                Laws'5.val Sequent.the-type Laws''.the-laws;
             tells = Laws'5.tells Sequent.the-type Laws''.the-laws;
             still = Laws'5.still
                 Sequent.the-type Laws''.the-copy Exit.yes;
@@ -6010,7 +6012,7 @@ module _ (claims· : Claims) where
               })
 
         abbrev pub dens : (a : Args) → Kinds.Dens κs ps
-        dens = λ a. (a .f, (a .t, (a .w, (a .k, (a .m, (a .st, (a .q, tt)))))))
+        dens = λ a. (a .words, (a .terms, (a .work, (a .names, (a .limits, (a .state, (a .sequent, tt)))))))
 
       abbrev pub m0 : (κs : Lifetimes.Lfts 4) → (args : Args κs) → Typed.Mo T0
       m0 = λ κs args. (tt, Enter.partsP κs 1 ps xs (dens κs args))
@@ -6385,22 +6387,22 @@ module _ (claims· : Claims) where
       m30 = λ before given. s42 .next (m29 (before .before) (After-branch·gave before)) given
 
       module _ (before· : After-branch) where
-        pub record After-f·own : Type 0 where
+        pub record After-words·own : Type 0 where
           pub given : s42 .gives (m29 (before· .before) (After-branch·gave before·))
 
-      pub record After-f : Type 0 where
+      pub record After-words : Type 0 where
         pub before : After-branch
-        pub f : After-f·own before
+        pub words : After-words·own before
 
-      abbrev pub m31 : (before : After-f) → (given : s43 .gives (m30 (before .before) (before .f .given))) → Typed.Mo T46
-      m31 = λ before given. s43 .next (m30 (before .before) (before .f .given)) given
+      abbrev pub m31 : (before : After-words) → (given : s43 .gives (m30 (before .before) (before .words .given))) → Typed.Mo T46
+      m31 = λ before given. s43 .next (m30 (before .before) (before .words .given)) given
 
-      module _ (before· : After-f) where
+      module _ (before· : After-words) where
         pub record After-slice-known3·own : Type 0 where
-          pub given : s43 .gives (m30 (before· .before) (before· .f .given))
+          pub given : s43 .gives (m30 (before· .before) (before· .words .given))
 
       pub record After-slice-known3 : Type 0 where
-        pub before : After-f
+        pub before : After-words
         pub slice-known3 : After-slice-known3·own before
 
       abbrev pub m32 : (before : After-slice-known3) → (given : s46 .gives (m31 (before .before) (before .slice-known3 .given))) →
@@ -6408,22 +6410,22 @@ module _ (claims· : Claims) where
       m32 = λ before given. s46 .next (m31 (before .before) (before .slice-known3 .given)) given
 
       module _ (before· : After-slice-known3) where
-        pub record After-t·own : Type 0 where
+        pub record After-terms·own : Type 0 where
           pub given : s46 .gives (m31 (before· .before) (before· .slice-known3 .given))
 
-      pub record After-t : Type 0 where
+      pub record After-terms : Type 0 where
         pub before : After-slice-known3
-        pub t : After-t·own before
+        pub terms : After-terms·own before
 
-      abbrev pub m33 : (before : After-t) → (given : s47 .gives (m32 (before .before) (before .t .given))) → Typed.Mo T50
-      m33 = λ before given. s47 .next (m32 (before .before) (before .t .given)) given
+      abbrev pub m33 : (before : After-terms) → (given : s47 .gives (m32 (before .before) (before .terms .given))) → Typed.Mo T50
+      m33 = λ before given. s47 .next (m32 (before .before) (before .terms .given)) given
 
-      module _ (before· : After-t) where
+      module _ (before· : After-terms) where
         pub record After-slice-known4·own : Type 0 where
-          pub given : s47 .gives (m32 (before· .before) (before· .t .given))
+          pub given : s47 .gives (m32 (before· .before) (before· .terms .given))
 
       pub record After-slice-known4 : Type 0 where
-        pub before : After-t
+        pub before : After-terms
         pub slice-known4 : After-slice-known4·own before
 
       abbrev pub m34 : (before : After-slice-known4) → (given : s50 .gives (m33 (before .before) (before .slice-known4 .given))) →
@@ -6431,32 +6433,32 @@ module _ (claims· : Claims) where
       m34 = λ before given. s50 .next (m33 (before .before) (before .slice-known4 .given)) given
 
       module _ (before· : After-slice-known4) where
-        pub record After-w·own : Type 0 where
+        pub record After-work·own : Type 0 where
           pub given : s50 .gives (m33 (before· .before) (before· .slice-known4 .given))
 
-      pub record After-w : Type 0 where
+      pub record After-work : Type 0 where
         pub before : After-slice-known4
-        pub w : After-w·own before
+        pub work : After-work·own before
 
-      module _ (before· : After-w) where
+      module _ (before· : After-work) where
         pub record At-match-keys1·own : Type 0 where
-          pub keys1 : Run.OneOf (0 ∷ []) (Declared.tagOf Answer.the-type (Row.get 27 (T53 .locals) (m34 (before· .before) (before· .w
+          pub keys1 : Run.OneOf (0 ∷ []) (Declared.tagOf Answer.the-type (Row.get 27 (T53 .locals) (m34 (before· .before) (before· .work
               .given))))
 
       pub record At-match-keys1 : Type 0 where
-        pub before : After-w
+        pub before : After-work
         pub match : At-match-keys1·own before
 
       abbrev pub Need-enum-known-i : Type 0
-      Need-enum-known-i = (c : At-match-keys1) → s52 .asks (m34 (c .before .before) (c .before .w .given))
+      Need-enum-known-i = (c : At-match-keys1) → s52 .asks (m34 (c .before .before) (c .before .work .given))
 
-      abbrev pub m35 : (before : At-match-keys1) → (given : s52 .gives (m34 (before .before .before) (before .before .w .given))) →
+      abbrev pub m35 : (before : At-match-keys1) → (given : s52 .gives (m34 (before .before .before) (before .before .work .given))) →
           Typed.Mo T55
-      m35 = λ before given. s52 .next (m34 (before .before .before) (before .before .w .given)) given
+      m35 = λ before given. s52 .next (m34 (before .before .before) (before .before .work .given)) given
 
       module _ (before· : At-match-keys1) where
         pub record After-i·own : Type 0 where
-          pub given : s52 .gives (m34 (before· .before .before) (before· .before .w .given))
+          pub given : s52 .gives (m34 (before· .before .before) (before· .before .work .given))
 
       pub record After-i : Type 0 where
         pub before : At-match-keys1
@@ -6687,22 +6689,22 @@ module _ (claims· : Claims) where
       m56 = λ before given. s80 .next (m55 (before .before) (After-branch2·gave before)) given
 
       module _ (before· : After-branch2) where
-        pub record After-f2·own : Type 0 where
+        pub record After-words2·own : Type 0 where
           pub given : s80 .gives (m55 (before· .before) (After-branch2·gave before·))
 
-      pub record After-f2 : Type 0 where
+      pub record After-words2 : Type 0 where
         pub before : After-branch2
-        pub f2 : After-f2·own before
+        pub words2 : After-words2·own before
 
-      abbrev pub m57 : (before : After-f2) → (given : s81 .gives (m56 (before .before) (before .f2 .given))) → Typed.Mo T85
-      m57 = λ before given. s81 .next (m56 (before .before) (before .f2 .given)) given
+      abbrev pub m57 : (before : After-words2) → (given : s81 .gives (m56 (before .before) (before .words2 .given))) → Typed.Mo T85
+      m57 = λ before given. s81 .next (m56 (before .before) (before .words2 .given)) given
 
-      module _ (before· : After-f2) where
+      module _ (before· : After-words2) where
         pub record After-slice-known5·own : Type 0 where
-          pub given : s81 .gives (m56 (before· .before) (before· .f2 .given))
+          pub given : s81 .gives (m56 (before· .before) (before· .words2 .given))
 
       pub record After-slice-known5 : Type 0 where
-        pub before : After-f2
+        pub before : After-words2
         pub slice-known5 : After-slice-known5·own before
 
       abbrev pub m58 : (before : After-slice-known5) → (given : s84 .gives (m57 (before .before) (before .slice-known5 .given))) →
@@ -6710,22 +6712,22 @@ module _ (claims· : Claims) where
       m58 = λ before given. s84 .next (m57 (before .before) (before .slice-known5 .given)) given
 
       module _ (before· : After-slice-known5) where
-        pub record After-t2·own : Type 0 where
+        pub record After-terms2·own : Type 0 where
           pub given : s84 .gives (m57 (before· .before) (before· .slice-known5 .given))
 
-      pub record After-t2 : Type 0 where
+      pub record After-terms2 : Type 0 where
         pub before : After-slice-known5
-        pub t2 : After-t2·own before
+        pub terms2 : After-terms2·own before
 
-      abbrev pub m59 : (before : After-t2) → (given : s85 .gives (m58 (before .before) (before .t2 .given))) → Typed.Mo T89
-      m59 = λ before given. s85 .next (m58 (before .before) (before .t2 .given)) given
+      abbrev pub m59 : (before : After-terms2) → (given : s85 .gives (m58 (before .before) (before .terms2 .given))) → Typed.Mo T89
+      m59 = λ before given. s85 .next (m58 (before .before) (before .terms2 .given)) given
 
-      module _ (before· : After-t2) where
+      module _ (before· : After-terms2) where
         pub record After-slice-known6·own : Type 0 where
-          pub given : s85 .gives (m58 (before· .before) (before· .t2 .given))
+          pub given : s85 .gives (m58 (before· .before) (before· .terms2 .given))
 
       pub record After-slice-known6 : Type 0 where
-        pub before : After-t2
+        pub before : After-terms2
         pub slice-known6 : After-slice-known6·own before
 
       abbrev pub m60 : (before : After-slice-known6) → (given : s88 .gives (m59 (before .before) (before .slice-known6 .given))) →
@@ -6733,32 +6735,32 @@ module _ (claims· : Claims) where
       m60 = λ before given. s88 .next (m59 (before .before) (before .slice-known6 .given)) given
 
       module _ (before· : After-slice-known6) where
-        pub record After-w2·own : Type 0 where
+        pub record After-work2·own : Type 0 where
           pub given : s88 .gives (m59 (before· .before) (before· .slice-known6 .given))
 
-      pub record After-w2 : Type 0 where
+      pub record After-work2 : Type 0 where
         pub before : After-slice-known6
-        pub w2 : After-w2·own before
+        pub work2 : After-work2·own before
 
-      module _ (before· : After-w2) where
+      module _ (before· : After-work2) where
         pub record At-match2-keys1·own : Type 0 where
-          pub keys1 : Run.OneOf (0 ∷ []) (Declared.tagOf Answer.the-type (Row.get 38 (T92 .locals) (m60 (before· .before) (before· .w2
-              .given))))
+          pub keys1 : Run.OneOf (0 ∷ []) (Declared.tagOf Answer.the-type (Row.get 38 (T92 .locals) (m60 (before· .before) (before·
+              .work2 .given))))
 
       pub record At-match2-keys1 : Type 0 where
-        pub before : After-w2
+        pub before : After-work2
         pub match2 : At-match2-keys1·own before
 
       abbrev pub Need-enum-known-j : Type 0
-      Need-enum-known-j = (c : At-match2-keys1) → s90 .asks (m60 (c .before .before) (c .before .w2 .given))
+      Need-enum-known-j = (c : At-match2-keys1) → s90 .asks (m60 (c .before .before) (c .before .work2 .given))
 
-      abbrev pub m61 : (before : At-match2-keys1) → (given : s90 .gives (m60 (before .before .before) (before .before .w2 .given))) →
+      abbrev pub m61 : (before : At-match2-keys1) → (given : s90 .gives (m60 (before .before .before) (before .before .work2 .given))) →
           Typed.Mo T94
-      m61 = λ before given. s90 .next (m60 (before .before .before) (before .before .w2 .given)) given
+      m61 = λ before given. s90 .next (m60 (before .before .before) (before .before .work2 .given)) given
 
       module _ (before· : At-match2-keys1) where
         pub record After-j·own : Type 0 where
-          pub given : s90 .gives (m60 (before· .before .before) (before· .before .w2 .given))
+          pub given : s90 .gives (m60 (before· .before .before) (before· .before .work2 .given))
 
       pub record After-j : Type 0 where
         pub before : At-match2-keys1
@@ -6884,43 +6886,43 @@ module _ (claims· : Claims) where
       m76 = λ before given. s107 .next (m75 (before .before) (After-close·gave before)) given
 
       module _ (before· : After-close) where
-        pub record After-t3·own : Type 0 where
+        pub record After-terms3·own : Type 0 where
           pub given : s107 .gives (m75 (before· .before) (After-close·gave before·))
 
-      pub record After-t3 : Type 0 where
+      pub record After-terms3 : Type 0 where
         pub before : After-close
-        pub t3 : After-t3·own before
+        pub terms3 : After-terms3·own before
 
-      abbrev pub m77 : (before : After-t3) → (given : s108 .gives (m76 (before .before) (before .t3 .given))) → Typed.Mo T112
-      m77 = λ before given. s108 .next (m76 (before .before) (before .t3 .given)) given
+      abbrev pub m77 : (before : After-terms3) → (given : s108 .gives (m76 (before .before) (before .terms3 .given))) → Typed.Mo T112
+      m77 = λ before given. s108 .next (m76 (before .before) (before .terms3 .given)) given
 
-      module _ (before· : After-t3) where
+      module _ (before· : After-terms3) where
         pub record After-slice-known7·own : Type 0 where
-          pub given : s108 .gives (m76 (before· .before) (before· .t3 .given))
+          pub given : s108 .gives (m76 (before· .before) (before· .terms3 .given))
 
       pub record After-slice-known7 : Type 0 where
-        pub before : After-t3
+        pub before : After-terms3
         pub slice-known7 : After-slice-known7·own before
 
-      module _ (before· : After-w2) where
+      module _ (before· : After-work2) where
         pub record At-match2-keys2·own : Type 0 where
-          pub keys2 : Run.OneOf (1 ∷ []) (Declared.tagOf Answer.the-type (Row.get 38 (T92 .locals) (m60 (before· .before) (before· .w2
-              .given))))
+          pub keys2 : Run.OneOf (1 ∷ []) (Declared.tagOf Answer.the-type (Row.get 38 (T92 .locals) (m60 (before· .before) (before·
+              .work2 .given))))
 
       pub record At-match2-keys2 : Type 0 where
-        pub before : After-w2
+        pub before : After-work2
         pub match2 : At-match2-keys2·own before
 
       abbrev pub Need-enum-known-s2 : Type 0
-      Need-enum-known-s2 = (c : At-match2-keys2) → s110 .asks (m60 (c .before .before) (c .before .w2 .given))
+      Need-enum-known-s2 = (c : At-match2-keys2) → s110 .asks (m60 (c .before .before) (c .before .work2 .given))
 
-      abbrev pub m78 : (before : At-match2-keys2) → (given : s110 .gives (m60 (before .before .before) (before .before .w2 .given))) →
-          Typed.Mo T114
-      m78 = λ before given. s110 .next (m60 (before .before .before) (before .before .w2 .given)) given
+      abbrev pub m78 : (before : At-match2-keys2) → (given : s110 .gives (m60 (before .before .before) (before .before .work2 .given)))
+          → Typed.Mo T114
+      m78 = λ before given. s110 .next (m60 (before .before .before) (before .before .work2 .given)) given
 
       module _ (before· : At-match2-keys2) where
         pub record After-s2·own : Type 0 where
-          pub given : s110 .gives (m60 (before· .before .before) (before· .before .w2 .given))
+          pub given : s110 .gives (m60 (before· .before .before) (before· .before .work2 .given))
 
       pub record After-s2 : Type 0 where
         pub before : At-match2-keys2
@@ -6952,25 +6954,25 @@ module _ (claims· : Claims) where
         pub before : After-s2
         pub known-told3 : After-known-told3·own before
 
-      module _ (before· : After-w2) where
+      module _ (before· : After-work2) where
         pub record At-match2-keys3·own : Type 0 where
-          pub keys3 : Run.OneOf (2 ∷ []) (Declared.tagOf Answer.the-type (Row.get 38 (T92 .locals) (m60 (before· .before) (before· .w2
-              .given))))
+          pub keys3 : Run.OneOf (2 ∷ []) (Declared.tagOf Answer.the-type (Row.get 38 (T92 .locals) (m60 (before· .before) (before·
+              .work2 .given))))
 
       pub record At-match2-keys3 : Type 0 where
-        pub before : After-w2
+        pub before : After-work2
         pub match2 : At-match2-keys3·own before
 
       abbrev pub Need-enum-known-n : Type 0
-      Need-enum-known-n = (c : At-match2-keys3) → s117 .asks (m60 (c .before .before) (c .before .w2 .given))
+      Need-enum-known-n = (c : At-match2-keys3) → s117 .asks (m60 (c .before .before) (c .before .work2 .given))
 
-      abbrev pub m85 : (before : At-match2-keys3) → (given : s117 .gives (m60 (before .before .before) (before .before .w2 .given))) →
-          Typed.Mo T121
-      m85 = λ before given. s117 .next (m60 (before .before .before) (before .before .w2 .given)) given
+      abbrev pub m85 : (before : At-match2-keys3) → (given : s117 .gives (m60 (before .before .before) (before .before .work2 .given)))
+          → Typed.Mo T121
+      m85 = λ before given. s117 .next (m60 (before .before .before) (before .before .work2 .given)) given
 
       module _ (before· : At-match2-keys3) where
         pub record After-n·own : Type 0 where
-          pub given : s117 .gives (m60 (before· .before .before) (before· .before .w2 .given))
+          pub given : s117 .gives (m60 (before· .before .before) (before· .before .work2 .given))
 
       pub record After-n : Type 0 where
         pub before : At-match2-keys3
@@ -7008,16 +7010,16 @@ module _ (claims· : Claims) where
         pub before : After-n
         pub known-told4 : After-known-told4·own before
 
-      abbrev pub m94 : (before : After-t3) → (given : s108 .gives (m76 (before .before) (before .t3 .given))) → Typed.Mo T130
+      abbrev pub m94 : (before : After-terms3) → (given : s108 .gives (m76 (before .before) (before .terms3 .given))) → Typed.Mo T130
       m94 = λ before given. s126 (m77 before given)
 
-      abbrev pub m95 : (before : After-t3) → (given : s108 .gives (m76 (before .before) (before .t3 .given))) → Typed.Mo T131
+      abbrev pub m95 : (before : After-terms3) → (given : s108 .gives (m76 (before .before) (before .terms3 .given))) → Typed.Mo T131
       m95 = λ before given. s127 (m94 before given)
 
-      abbrev pub m96 : (before : After-t3) → (given : s108 .gives (m76 (before .before) (before .t3 .given))) → Typed.Mo T132
+      abbrev pub m96 : (before : After-terms3) → (given : s108 .gives (m76 (before .before) (before .terms3 .given))) → Typed.Mo T132
       m96 = λ before given. s128 (m95 before given)
 
-      abbrev pub m97 : (before : After-t3) → (given : s108 .gives (m76 (before .before) (before .t3 .given))) → Typed.Mo T133
+      abbrev pub m97 : (before : After-terms3) → (given : s108 .gives (m76 (before .before) (before .terms3 .given))) → Typed.Mo T133
       m97 = λ before given. s129 (m96 before given)
 
       abbrev pub m98 : (before : After-s2) → (given : s111 .gives (m78 (before .before) (before .s2 .given))) → Typed.Mo T130
@@ -7044,25 +7046,25 @@ module _ (claims· : Claims) where
       abbrev pub m105 : (before : After-n) → (given : s118 .gives (m85 (before .before) (before .n .given))) → Typed.Mo T133
       m105 = λ before given. s129 (m104 before given)
 
-      module _ (before· : After-w) where
+      module _ (before· : After-work) where
         pub record At-match-keys2·own : Type 0 where
-          pub keys2 : Run.OneOf (1 ∷ []) (Declared.tagOf Answer.the-type (Row.get 27 (T53 .locals) (m34 (before· .before) (before· .w
+          pub keys2 : Run.OneOf (1 ∷ []) (Declared.tagOf Answer.the-type (Row.get 27 (T53 .locals) (m34 (before· .before) (before· .work
               .given))))
 
       pub record At-match-keys2 : Type 0 where
-        pub before : After-w
+        pub before : After-work
         pub match : At-match-keys2·own before
 
       abbrev pub Need-enum-known-s : Type 0
-      Need-enum-known-s = (c : At-match-keys2) → s130 .asks (m34 (c .before .before) (c .before .w .given))
+      Need-enum-known-s = (c : At-match-keys2) → s130 .asks (m34 (c .before .before) (c .before .work .given))
 
-      abbrev pub m106 : (before : At-match-keys2) → (given : s130 .gives (m34 (before .before .before) (before .before .w .given))) →
+      abbrev pub m106 : (before : At-match-keys2) → (given : s130 .gives (m34 (before .before .before) (before .before .work .given))) →
           Typed.Mo T134
-      m106 = λ before given. s130 .next (m34 (before .before .before) (before .before .w .given)) given
+      m106 = λ before given. s130 .next (m34 (before .before .before) (before .before .work .given)) given
 
       module _ (before· : At-match-keys2) where
         pub record After-s·own : Type 0 where
-          pub given : s130 .gives (m34 (before· .before .before) (before· .before .w .given))
+          pub given : s130 .gives (m34 (before· .before .before) (before· .before .work .given))
 
       pub record After-s : Type 0 where
         pub before : At-match-keys2
@@ -7097,25 +7099,25 @@ module _ (claims· : Claims) where
         pub before : After-s
         pub known-told5 : After-known-told5·own before
 
-      module _ (before· : After-w) where
+      module _ (before· : After-work) where
         pub record At-match-keys3·own : Type 0 where
-          pub keys3 : Run.OneOf (2 ∷ []) (Declared.tagOf Answer.the-type (Row.get 27 (T53 .locals) (m34 (before· .before) (before· .w
+          pub keys3 : Run.OneOf (2 ∷ []) (Declared.tagOf Answer.the-type (Row.get 27 (T53 .locals) (m34 (before· .before) (before· .work
               .given))))
 
       pub record At-match-keys3 : Type 0 where
-        pub before : After-w
+        pub before : After-work
         pub match : At-match-keys3·own before
 
       abbrev pub Need-enum-known-n-2 : Type 0
-      Need-enum-known-n-2 = (c : At-match-keys3) → s138 .asks (m34 (c .before .before) (c .before .w .given))
+      Need-enum-known-n-2 = (c : At-match-keys3) → s138 .asks (m34 (c .before .before) (c .before .work .given))
 
-      abbrev pub m114 : (before : At-match-keys3) → (given : s138 .gives (m34 (before .before .before) (before .before .w .given))) →
+      abbrev pub m114 : (before : At-match-keys3) → (given : s138 .gives (m34 (before .before .before) (before .before .work .given))) →
           Typed.Mo T142
-      m114 = λ before given. s138 .next (m34 (before .before .before) (before .before .w .given)) given
+      m114 = λ before given. s138 .next (m34 (before .before .before) (before .before .work .given)) given
 
       module _ (before· : At-match-keys3) where
         pub record After-n2·own : Type 0 where
-          pub given : s138 .gives (m34 (before· .before .before) (before· .before .w .given))
+          pub given : s138 .gives (m34 (before· .before .before) (before· .before .work .given))
 
       pub record After-n2 : Type 0 where
         pub before : At-match-keys3
@@ -7156,22 +7158,22 @@ module _ (claims· : Claims) where
         pub before : After-n2
         pub known-told6 : After-known-told6·own before
 
-      abbrev pub m124 : (before : After-t3) → (given : s108 .gives (m76 (before .before) (before .t3 .given))) → Typed.Mo T152
+      abbrev pub m124 : (before : After-terms3) → (given : s108 .gives (m76 (before .before) (before .terms3 .given))) → Typed.Mo T152
       m124 = λ before given. s148 (m97 before given)
 
-      abbrev pub m125 : (before : After-t3) → (given : s108 .gives (m76 (before .before) (before .t3 .given))) → Typed.Mo T153
+      abbrev pub m125 : (before : After-terms3) → (given : s108 .gives (m76 (before .before) (before .terms3 .given))) → Typed.Mo T153
       m125 = λ before given. s149 (m124 before given)
 
-      abbrev pub m126 : (before : After-t3) → (given : s108 .gives (m76 (before .before) (before .t3 .given))) → Typed.Mo T154
+      abbrev pub m126 : (before : After-terms3) → (given : s108 .gives (m76 (before .before) (before .terms3 .given))) → Typed.Mo T154
       m126 = λ before given. s150 (m125 before given)
 
-      abbrev pub m127 : (before : After-t3) → (given : s108 .gives (m76 (before .before) (before .t3 .given))) → Typed.Mo T155
+      abbrev pub m127 : (before : After-terms3) → (given : s108 .gives (m76 (before .before) (before .terms3 .given))) → Typed.Mo T155
       m127 = λ before given. s151 (m126 before given)
 
-      abbrev pub m128 : (before : After-t3) → (given : s108 .gives (m76 (before .before) (before .t3 .given))) → Typed.Mo T156
+      abbrev pub m128 : (before : After-terms3) → (given : s108 .gives (m76 (before .before) (before .terms3 .given))) → Typed.Mo T156
       m128 = λ before given. s152 (m127 before given)
 
-      abbrev pub m129 : (before : After-t3) → (given : s108 .gives (m76 (before .before) (before .t3 .given))) → Typed.Mo T157
+      abbrev pub m129 : (before : After-terms3) → (given : s108 .gives (m76 (before .before) (before .terms3 .given))) → Typed.Mo T157
       m129 = λ before given. s153 (m128 before given)
 
       abbrev pub Need-same-length : Type 0
@@ -7762,15 +7764,16 @@ module _ (claims· : Claims) where
                         before = record {
                           before = record {
                             before = record
-                                { before = record { before = c .before; branch2 = c .branch2 }; f2 = record { given = g } };
+                                { before = record { before = c .before; branch2 = c .branch2 }; words2 = record { given = g } };
                             slice-known5 = record
                                 { given = g' };
                           };
-                          t2 = record { given = g'' };
+                          terms2 = record { given = g'' };
                         };
                         slice-known6 = record { given = g'3 };
                       };
-                      w2 = record { given = g'4 };
+                      work2 = record
+                          { given = g'4 };
                     };
                     match2 = record { keys1 = k };
                   },
@@ -7785,16 +7788,17 @@ module _ (claims· : Claims) where
                                 before = record {
                                   before = record {
                                     before = record {
-                                      before = record
-                                          { before = record { before = c .before; branch2 = c .branch2 }; f2 = record { given = g } };
-                                      slice-known5 = record
-                                          { given = g' };
+                                      before =
+                                          record { before = record { before = c .before; branch2 = c .branch2 }; words2 = record { given = g } };
+                                      slice-known5 =
+                                          record { given = g' };
                                     };
-                                    t2 = record { given = g'' };
+                                    terms2 = record { given = g'' };
                                   };
                                   slice-known6 = record { given = g'3 };
                                 };
-                                w2 = record { given = g'4 };
+                                work2 = record
+                                    { given = g'4 };
                               };
                               match2 = record { keys1 = k };
                             };
@@ -7802,68 +7806,67 @@ module _ (claims· : Claims) where
                           };
                           known-told2 = record { given = g'6 };
                         };
-                        close-arg = record
-                            { given = g'7 };
+                        close-arg = record { given = g'7 };
                       },
                       (
                         add-close-2 record {
                           before = record {
                             before = record {
                               before = record {
-                                before = record {
-                                  before =
-                                      record {
+                                before =
+                                    record {
+                                      before = record {
                                         before = record {
                                           before = record {
                                             before = record
-                                                { before = record { before = c .before; branch2 = c .branch2 }; f2 = record { given = g } };
+                                                { before = record { before = c .before; branch2 = c .branch2 }; words2 = record { given = g } };
                                             slice-known5 = record
                                                 { given = g' };
                                           };
-                                          t2 = record { given = g'' };
+                                          terms2 = record { given = g'' };
                                         };
                                         slice-known6 = record { given = g'3 };
                                       };
-                                  w2 = record { given = g'4 };
-                                };
+                                      work2 = record
+                                          { given = g'4 };
+                                    };
                                 match2 = record { keys1 = k };
                               };
                               j = record { given = g'5 };
                             };
                             known-told2 = record { given = g'6 };
                           };
-                          close-arg = record
-                              { given = g'7 };
+                          close-arg = record { given = g'7 };
                         },
                         (
                           close-requires record {
                             before = record {
                               before = record {
                                 before = record {
-                                  before = record {
-                                    before =
-                                        record {
+                                  before
+                                      = record {
+                                        before = record {
                                           before = record {
                                             before = record {
                                               before = record
-                                                  { before = record { before = c .before; branch2 = c .branch2 }; f2 = record { given = g } };
+                                                  { before = record { before = c .before; branch2 = c .branch2 }; words2 = record { given = g } };
                                               slice-known5 = record
                                                   { given = g' };
                                             };
-                                            t2 = record { given = g'' };
+                                            terms2 = record { given = g'' };
                                           };
                                           slice-known6 = record { given = g'3 };
                                         };
-                                    w2 = record { given = g'4 };
-                                  };
+                                        work2 = record
+                                            { given = g'4 };
+                                      };
                                   match2 = record { keys1 = k };
                                 };
                                 j = record { given = g'5 };
                               };
                               known-told2 = record { given = g'6 };
                             };
-                            close-arg = record
-                                { given = g'7 };
+                            close-arg = record { given = g'7 };
                           },
                           λ g'8. (
                             Path'.refl,
@@ -7876,17 +7879,19 @@ module _ (claims· : Claims) where
                                         before = record {
                                           before = record {
                                             before = record {
-                                              before = record {
-                                                before =
-                                                    record {
-                                                      before = record { before = record { before = c .before; branch2 = c .branch2 }; f2 = record { given = g } };
-                                                      slice-known5 = record { given = g' };
+                                              before =
+                                                  record {
+                                                    before = record {
+                                                      before = record
+                                                          { before = record { before = c .before; branch2 = c .branch2 }; words2 = record { given = g } };
+                                                      slice-known5 = record
+                                                          { given = g' };
                                                     };
-                                                t2 = record { given = g'' };
-                                              };
+                                                    terms2 = record { given = g'' };
+                                                  };
                                               slice-known6 = record { given = g'3 };
                                             };
-                                            w2 = record
+                                            work2 = record
                                                 { given = g'4 };
                                           };
                                           match2 = record { keys1 = k };
@@ -7918,25 +7923,26 @@ module _ (claims· : Claims) where
                                             before = record {
                                               before = record {
                                                 before =
-                                                    record { before = record { before = c .before; branch2 = c .branch2 }; f2 = record { given = g } };
-                                                slice-known5 = record
-                                                    { given = g' };
+                                                    record { before = record { before = c .before; branch2 = c .branch2 }; words2 = record { given = g } };
+                                                slice-known5 =
+                                                    record { given = g' };
                                               };
-                                              t2 = record { given = g'' };
+                                              terms2 = record { given = g'' };
                                             };
                                             slice-known6 = record { given = g'3 };
                                           };
-                                          w2 = record { given = g'4 };
+                                          work2 = record
+                                              { given = g'4 };
                                         };
                                         match2 = record { keys1 = k };
                                       };
                                       j = record { given = g'5 };
                                     };
                                     known-told2 = record { given = g'6 };
-                                  } g'7) g'8;
+                                  }
+                                      g'7) g'8;
                                 };
-                                t3 =
-                                    record { given = g'9 };
+                                terms3 = record { given = g'9 };
                               };
                               slice-known7 = record { given = g'10 };
                             },
@@ -7954,15 +7960,16 @@ module _ (claims· : Claims) where
                           before = record {
                             before = record {
                               before = record
-                                  { before = record { before = c .before; branch2 = c .branch2 }; f2 = record { given = g } };
+                                  { before = record { before = c .before; branch2 = c .branch2 }; words2 = record { given = g } };
                               slice-known5 = record
                                   { given = g' };
                             };
-                            t2 = record { given = g'' };
+                            terms2 = record { given = g'' };
                           };
                           slice-known6 = record { given = g'3 };
                         };
-                        w2 = record { given = g'4 };
+                        work2 = record
+                            { given = g'4 };
                       };
                       match2 = record { keys2 = k };
                     },
@@ -7970,26 +7977,27 @@ module _ (claims· : Claims) where
                       before = record {
                         before = record {
                           before = record {
-                            before
-                                = record {
-                                  before = record {
-                                    before = record {
-                                      before = record
-                                          { before = record { before = c .before; branch2 = c .branch2 }; f2 = record { given = g } };
-                                      slice-known5 = record
-                                          { given = g' };
-                                    };
-                                    t2 = record { given = g'' };
-                                  };
-                                  slice-known6 = record { given = g'3 };
+                            before = record {
+                              before = record {
+                                before = record {
+                                  before = record
+                                      { before = record { before = c .before; branch2 = c .branch2 }; words2 = record { given = g } };
+                                  slice-known5 = record
+                                      { given = g' };
                                 };
-                            w2 = record { given = g'4 };
+                                terms2 = record { given = g'' };
+                              };
+                              slice-known6 = record { given = g'3 };
+                            };
+                            work2 = record
+                                { given = g'4 };
                           };
                           match2 = record { keys2 = k };
                         };
                         s2 = record { given = g'11 };
                       };
-                      known-told3 = record { given = g'12 };
+                      known-told3 = record
+                          { given = g'12 };
                     },
                   ),
                   (
@@ -7999,16 +8007,15 @@ module _ (claims· : Claims) where
                           before = record {
                             before = record {
                               before = record {
-                                before = record
-                                    { before = record { before = c .before; branch2 = c .branch2 }; f2 = record { given = g } };
-                                slice-known5 = record
-                                    { given = g' };
+                                before = record { before = record { before = c .before; branch2 = c .branch2 }; words2 = record { given = g } };
+                                slice-known5 = record { given = g' };
                               };
-                              t2 = record { given = g'' };
+                              terms2 = record { given = g'' };
                             };
                             slice-known6 = record { given = g'3 };
                           };
-                          w2 = record { given = g'4 };
+                          work2 =
+                              record { given = g'4 };
                         };
                         match2 = record { keys3 = k };
                       },
@@ -8016,20 +8023,20 @@ module _ (claims· : Claims) where
                         before = record {
                           before = record {
                             before = record {
-                              before
-                                  = record {
-                                    before = record {
-                                      before = record {
-                                        before = record
-                                            { before = record { before = c .before; branch2 = c .branch2 }; f2 = record { given = g } };
-                                        slice-known5 = record
-                                            { given = g' };
-                                      };
-                                      t2 = record { given = g'' };
-                                    };
-                                    slice-known6 = record { given = g'3 };
+                              before = record {
+                                before = record {
+                                  before = record {
+                                    before = record
+                                        { before = record { before = c .before; branch2 = c .branch2 }; words2 = record { given = g } };
+                                    slice-known5 = record
+                                        { given = g' };
                                   };
-                              w2 = record { given = g'4 };
+                                  terms2 = record { given = g'' };
+                                };
+                                slice-known6 = record { given = g'3 };
+                              };
+                              work2 = record
+                                  { given = g'4 };
                             };
                             match2 = record { keys3 = k };
                           };
@@ -8038,18 +8045,17 @@ module _ (claims· : Claims) where
                         known-told4 = record { given = g'14 };
                       },
                     ),
-                    Match.each-below 3
-                        (λ j. ((Unit {0} × (Run.OneOf (0 ∷ []) j → ⊥)) × (Run.OneOf (1 ∷ []) j → ⊥)) × (Run.OneOf (2 ∷ []) j → ⊥) → ⊥)
-                        (λ n. n .1 Path'.refl, (λ n. n .0 .1 Path'.refl, (λ n. n .0 .0 .1 Path'.refl, tt))) (Declared.tagOf Answer.the-type (Row.get
-                        38 (T92 .locals) (m60 record {
+                    Match.each-below 3 (λ j. ((Unit {0} × (Run.OneOf (0 ∷ []) j → ⊥)) × (Run.OneOf (1 ∷ []) j → ⊥)) × (Run.OneOf (2 ∷ []) j →
+                        ⊥) → ⊥) (λ n. n .1 Path'.refl, (λ n. n .0 .1 Path'.refl, (λ n. n .0 .0 .1 Path'.refl, tt))) (Declared.tagOf Answer.the-type
+                        (Row.get 38 (T92 .locals) (m60 record {
                           before = record {
                             before = record {
                               before = record
-                                  { before = record { before = c .before; branch2 = c .branch2 }; f2 = record { given = g } };
+                                  { before = record { before = c .before; branch2 = c .branch2 }; words2 = record { given = g } };
                               slice-known5 = record
                                   { given = g' };
                             };
-                            t2 = record { given = g'' };
+                            terms2 = record { given = g'' };
                           };
                           slice-known6 = record { given = g'3 };
                         } g'4))) (Match.tag-small
@@ -8057,11 +8063,11 @@ module _ (claims· : Claims) where
                           before = record {
                             before = record {
                               before = record
-                                  { before = record { before = c .before; branch2 = c .branch2 }; f2 = record { given = g } };
+                                  { before = record { before = c .before; branch2 = c .branch2 }; words2 = record { given = g } };
                               slice-known5 = record
                                   { given = g' };
                             };
-                            t2 = record { given = g'' };
+                            terms2 = record { given = g'' };
                           };
                           slice-known6 = record { given = g'3 };
                         } g'4))),
@@ -8184,74 +8190,74 @@ module _ (claims· : Claims) where
                         before = record {
                           before = record {
                             before = record
-                                { before = record { before = c .before; branch = c .branch }; f = record { given = g } };
+                                { before = record { before = c .before; branch = c .branch }; words = record { given = g } };
                             slice-known3 = record
                                 { given = g' };
                           };
-                          t = record { given = g'' };
+                          terms = record { given = g'' };
                         };
                         slice-known4 = record { given = g'3 };
                       };
-                      w = record { given = g'4 };
+                      work = record
+                          { given = g'4 };
                     };
-                    match
-                        = record { keys1 = k };
+                    match = record { keys1 = k };
                   },
                   λ g'5. λ g'6. (
                     fresh-requires-2 record {
                       before = record {
-                        before = record {
-                          before = record {
-                            before = record {
+                        before =
+                            record {
                               before = record {
                                 before = record {
-                                  before = record
-                                      { before = record { before = c .before; branch = c .branch }; f = record { given = g } };
-                                  slice-known3 = record
-                                      { given = g' };
+                                  before = record {
+                                    before = record {
+                                      before = record
+                                          { before = record { before = c .before; branch = c .branch }; words = record { given = g } };
+                                      slice-known3 = record
+                                          { given = g' };
+                                    };
+                                    terms = record { given = g'' };
+                                  };
+                                  slice-known4 = record { given = g'3 };
                                 };
-                                t = record { given = g'' };
+                                work = record
+                                    { given = g'4 };
                               };
-                              slice-known4 = record { given = g'3 };
+                              match = record { keys1 = k };
                             };
-                            w = record { given = g'4 };
-                          };
-                          match
-                              = record { keys1 = k };
-                        };
                         i = record { given = g'5 };
                       };
                       known-told = record { given = g'6 };
                     },
-                    λ g'7. lay7 record {
-                      before =
-                          record {
+                    λ
+                        g'7. lay7 record {
+                          before = record {
                             before = record {
                               before = record {
                                 before = record {
                                   before = record {
                                     before = record {
                                       before = record {
-                                        before
-                                            = record { before = record { before = c .before; branch = c .branch }; f = record { given = g } };
+                                        before = record
+                                            { before = record { before = c .before; branch = c .branch }; words = record { given = g } };
                                         slice-known3 = record
                                             { given = g' };
                                       };
-                                      t = record { given = g'' };
+                                      terms = record { given = g'' };
                                     };
                                     slice-known4 = record { given = g'3 };
                                   };
-                                  w = record { given = g'4 };
+                                  work = record
+                                      { given = g'4 };
                                 };
-                                match
-                                    = record { keys1 = k };
+                                match = record { keys1 = k };
                               };
                               i = record { given = g'5 };
                             };
                             known-told = record { given = g'6 };
                           };
-                      fresh2 = Called.called ps·3
-                          r·3 (claims· .7) T59 (
+                          fresh2 = Called.called ps·3 r·3 (claims· .7) T59 (
                             record
                                 { pos = 4; ty = Syntax.tyRef (Syntax.named 3) Syntax.imm (Syntax.tyInt Syntax.w8); ref = λ x. x },
                             (Num.vFld 13 ((Syntax.field 1) ∷ []) 8 λ x. State.struct .as-values x .1 .0, tt),
@@ -8263,66 +8269,66 @@ module _ (claims· : Claims) where
                                       before = record {
                                         before = record {
                                           before = record
-                                              { before = record { before = c .before; branch = c .branch }; f = record { given = g } };
+                                              { before = record { before = c .before; branch = c .branch }; words = record { given = g } };
                                           slice-known3 = record
                                               { given = g' };
                                         };
-                                        t = record { given = g'' };
+                                        terms = record { given = g'' };
                                       };
                                       slice-known4 = record { given = g'3 };
                                     };
-                                    w = record { given = g'4 };
+                                    work = record
+                                        { given = g'4 };
                                   };
-                              match
-                                  = record { keys1 = k };
+                              match = record { keys1 = k };
                             };
                             i = record { given = g'5 };
                           } g'6) g'7;
-                    },
+                        },
                   ),
                 ),
                 (
                   λ k. (
                     enum-known-s record {
                       before = record {
-                        before =
-                            record {
-                              before = record {
-                                before = record {
-                                  before = record
-                                      { before = record { before = c .before; branch = c .branch }; f = record { given = g } };
-                                  slice-known3 = record
-                                      { given = g' };
-                                };
-                                t = record { given = g'' };
-                              };
-                              slice-known4 = record { given = g'3 };
+                        before = record {
+                          before = record {
+                            before = record {
+                              before = record
+                                  { before = record { before = c .before; branch = c .branch }; words = record { given = g } };
+                              slice-known3 = record
+                                  { given = g' };
                             };
-                        w = record { given = g'4 };
+                            terms = record { given = g'' };
+                          };
+                          slice-known4 = record { given = g'3 };
+                        };
+                        work = record
+                            { given = g'4 };
                       };
-                      match
-                          = record { keys2 = k };
+                      match = record { keys2 = k };
                     },
                     λ g'8. λ g'9. lay16 record {
                       before = record {
                         before = record {
-                          before = record {
-                            before = record {
-                              before = record {
+                          before =
+                              record {
                                 before = record {
-                                  before = record
-                                      { before = record { before = c .before; branch = c .branch }; f = record { given = g } };
-                                  slice-known3 = record
-                                      { given = g' };
+                                  before = record {
+                                    before = record {
+                                      before = record
+                                          { before = record { before = c .before; branch = c .branch }; words = record { given = g } };
+                                      slice-known3 = record
+                                          { given = g' };
+                                    };
+                                    terms = record { given = g'' };
+                                  };
+                                  slice-known4 = record { given = g'3 };
                                 };
-                                t = record { given = g'' };
+                                work = record
+                                    { given = g'4 };
                               };
-                              slice-known4 = record { given = g'3 };
-                            };
-                            w = record { given = g'4 };
-                          };
-                          match
-                              = record { keys2 = k };
+                          match = record { keys2 = k };
                         };
                         s = record { given = g'8 };
                       };
@@ -8330,66 +8336,65 @@ module _ (claims· : Claims) where
                     },
                   ),
                   (
-                    λ k. (
-                      enum-known-n-2
-                          record {
+                    λ
+                        k. (
+                          enum-known-n-2 record {
                             before = record {
                               before = record {
                                 before = record {
                                   before = record {
                                     before = record
-                                        { before = record { before = c .before; branch = c .branch }; f = record { given = g } };
+                                        { before = record { before = c .before; branch = c .branch }; words = record { given = g } };
                                     slice-known3 = record
                                         { given = g' };
                                   };
-                                  t = record { given = g'' };
+                                  terms = record { given = g'' };
                                 };
                                 slice-known4 = record { given = g'3 };
                               };
-                              w = record { given = g'4 };
+                              work = record
+                                  { given = g'4 };
                             };
-                            match
-                                = record { keys3 = k };
+                            match = record { keys3 = k };
                           },
-                      λ g'10. λ g'11. lay17 record {
-                        before = record {
-                          before = record {
+                          λ g'10. λ g'11. lay17 record {
                             before = record {
-                              before =
-                                  record {
-                                    before = record {
+                              before = record {
+                                before
+                                    = record {
                                       before = record {
-                                        before = record
-                                            { before = record { before = c .before; branch = c .branch }; f = record { given = g } };
-                                        slice-known3 = record
-                                            { given = g' };
+                                        before = record {
+                                          before = record {
+                                            before = record
+                                                { before = record { before = c .before; branch = c .branch }; words = record { given = g } };
+                                            slice-known3 = record
+                                                { given = g' };
+                                          };
+                                          terms = record { given = g'' };
+                                        };
+                                        slice-known4 = record { given = g'3 };
                                       };
-                                      t = record { given = g'' };
+                                      work = record
+                                          { given = g'4 };
                                     };
-                                    slice-known4 = record { given = g'3 };
-                                  };
-                              w = record { given = g'4 };
+                                match = record { keys3 = k };
+                              };
+                              n2 = record { given = g'10 };
                             };
-                            match
-                                = record { keys3 = k };
-                          };
-                          n2 = record { given = g'10 };
-                        };
-                        known-told6 = record { given = g'11 };
-                      },
-                    ),
-                    Match.each-below 3 (λ j.
-                        ((Unit {0} × (Run.OneOf (0 ∷ []) j → ⊥)) × (Run.OneOf (1 ∷ []) j → ⊥)) × (Run.OneOf (2 ∷ []) j → ⊥) → ⊥)
-                        (λ n. n .1 Path'.refl, (λ n. n .0 .1 Path'.refl, (λ n. n .0 .0 .1 Path'.refl, tt))) (Declared.tagOf Answer.the-type (Row.get
-                        27 (T53 .locals) (m34 record {
+                            known-told6 = record { given = g'11 };
+                          },
+                        ),
+                    Match.each-below 3 (λ j. ((Unit {0} × (Run.OneOf (0 ∷ []) j → ⊥)) × (Run.OneOf (1 ∷ []) j → ⊥)) × (Run.OneOf (2 ∷ []) j →
+                        ⊥) → ⊥) (λ n. n .1 Path'.refl, (λ n. n .0 .1 Path'.refl, (λ n. n .0 .0 .1 Path'.refl, tt))) (Declared.tagOf Answer.the-type
+                        (Row.get 27 (T53 .locals) (m34 record {
                           before = record {
                             before = record {
                               before = record
-                                  { before = record { before = c .before; branch = c .branch }; f = record { given = g } };
+                                  { before = record { before = c .before; branch = c .branch }; words = record { given = g } };
                               slice-known3 = record
                                   { given = g' };
                             };
-                            t = record { given = g'' };
+                            terms = record { given = g'' };
                           };
                           slice-known4 = record { given = g'3 };
                         } g'4))) (Match.tag-small
@@ -8397,11 +8402,11 @@ module _ (claims· : Claims) where
                           before = record {
                             before = record {
                               before = record
-                                  { before = record { before = c .before; branch = c .branch }; f = record { given = g } };
+                                  { before = record { before = c .before; branch = c .branch }; words = record { given = g } };
                               slice-known3 = record
                                   { given = g' };
                             };
-                            t = record { given = g'' };
+                            terms = record { given = g'' };
                           };
                           slice-known4 = record { given = g'3 };
                         } g'4))),
@@ -8590,17 +8595,18 @@ module _ (claims· : Claims) where
           asked = λ a good pre bs. laid record {
             κs = κs;
             args = record {
-              f = a .0;
-              t = a .1 .0;
-              w = a .1 .1 .0;
-              k = a .1 .1 .1 .0;
-              m =
-                  a .1 .1 .1 .1 .0;
-              st = a .1 .1 .1 .1 .1 .0;
-              q = a .1 .1 .1 .1 .1 .1 .0;
+              words = a .0;
+              terms = a .1 .0;
+              work = a .1 .1 .0;
+              names = a .1
+                  .1 .1 .0;
+              limits = a .1 .1 .1 .1 .0;
+              state = a .1 .1 .1 .1 .1 .0;
+              sequent = a .1 .1 .1 .1 .1 .1 .0;
             };
             good = good;
-            pre = pre;
+            pre =
+                pre;
           }
 
         module _ {M : Type 1} (𝓤 : URA.URA M) (H : Wp.Heap 𝓤) (A : Atoms.Atoms 𝓤) (W : Kit.Given 𝓤 H A) (𝓣 : Wp.Tables 𝓤 H) (known0 :
@@ -8609,7 +8615,7 @@ module _ (claims· : Claims) where
             "context::term_at") (known3 : Plain.Known 𝓤 H A W 𝓣 1 ps·3 r·3 (claims· .6) (claims· .7) "identifier_generator::fresh")
             (known4 : Plain.Known 𝓤 H A W 𝓣 1 ps·4 r·4 (claims· .8) (claims· .9) "formula::left") (known5 : Plain.Known 𝓤 H A W 𝓣 4 ps·5
             r·5 (claims· .10) (claims· .11) "prove::branch") (known6 : Plain.Known 𝓤 H A W 𝓣 1 ps·6 r·6 (claims· .12) (claims· .13)
-            "formula::right") (known7 : Plain.Known 𝓤 H A W 𝓣 1 ps·7 r·7 (claims· .14) (claims· .15) "rules::close") where
+            "formula::right") (known7 : Plain.Known 𝓤 H A W 𝓣 1 ps·7 r·7 (claims· .14) (claims· .15) "search_left::close") where
           pub spec : Statement.Triple 𝓤 (Wp.WpFn 𝓤 H (𝓣 .C) (𝓣 .Λ) (Function.fnOf 4 ps r xs m hs body)) (Function.plainOf 𝓤 H A 4 ps r
               Pre· Post·)
           spec = Plain.t-fn-plain 𝓤 H A W 𝓣 4 ps r xs m hs body (λ κs qs bs. Φ) (λ κs qs bs bd. typed κs qs 𝓤 H A W 𝓣

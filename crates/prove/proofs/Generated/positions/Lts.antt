@@ -1,14 +1,14 @@
 -- Made by tools/records.py from the sources; antt refuses it where it is stale. Assumes nothing.
 use Prim.Native.Nat
-use Rattle.context.proofs.Answer
-use Rattle.context.proofs.Answer.Laws
 use Rattle.context.proofs.Element
-use Rattle.context.proofs.Limits
-use Rattle.context.proofs.Limits.Laws as Laws'
-use Rattle.context.proofs.Sequent
-use Rattle.context.proofs.Sequent.Laws as Laws''
-use Rattle.context.proofs.State
-use Rattle.context.proofs.State.Laws as Laws'3
+use Rattle.meter.proofs.Answer
+use Rattle.meter.proofs.Answer.Laws
+use Rattle.meter.proofs.Limits
+use Rattle.meter.proofs.Limits.Laws as Laws'
+use Rattle.meter.proofs.Sequent
+use Rattle.meter.proofs.Sequent.Laws as Laws''
+use Rattle.meter.proofs.State
+use Rattle.meter.proofs.State.Laws as Laws'3
 use borrow.Author.Called
 use borrow.Author.Tests
 use borrow.Enum.Known
@@ -79,8 +79,8 @@ abbrev y0 : Syntax.Ty
 y0 = Syntax.tyInt Syntax.w64
 
 abbrev y1 : Syntax.Ty
-y1 = Syntax.tyStruct (99 ∷ 111 ∷ 110 ∷ 116 ∷ 101 ∷ 120 ∷ 116 ∷ 58 ∷ 58 ∷ 83 ∷ 116 ∷ 97 ∷ 116 ∷ 101 ∷ []) (Syntax.tcons y0 (Syntax.tcons
-    y0 (Syntax.tcons y0 (Syntax.tcons y0 Syntax.tnil))))
+y1 = Syntax.tyStruct (109 ∷ 101 ∷ 116 ∷ 101 ∷ 114 ∷ 58 ∷ 58 ∷ 83 ∷ 116 ∷ 97 ∷ 116 ∷ 101 ∷ []) (Syntax.tcons y0 (Syntax.tcons y0
+    (Syntax.tcons y0 (Syntax.tcons y0 Syntax.tnil))))
 
 abbrev y2 : Syntax.Ty
 y2 = Syntax.tyInt Syntax.w32
@@ -98,9 +98,9 @@ abbrev y6 : Syntax.Ty
 y6 = Syntax.tyStruct (38 ∷ 91 ∷ 93 ∷ []) (Syntax.tcons y5 (Syntax.tcons y0 Syntax.tnil))
 
 abbrev y7 : Syntax.Ty
-y7 = Syntax.tyEnum (99 ∷ 111 ∷ 110 ∷ 116 ∷ 101 ∷ 120 ∷ 116 ∷ 58 ∷ 58 ∷ 65 ∷ 110 ∷ 115 ∷ 119 ∷ 101 ∷ 114 ∷ []) (Syntax.ttcons
-    (Syntax.tcons y0 (Syntax.tcons y1 Syntax.tnil)) (Syntax.ttcons (Syntax.tcons y1 Syntax.tnil) (Syntax.ttcons (Syntax.tcons y0
-    (Syntax.tcons y1 Syntax.tnil)) Syntax.ttnil)))
+y7 = Syntax.tyEnum (109 ∷ 101 ∷ 116 ∷ 101 ∷ 114 ∷ 58 ∷ 58 ∷ 65 ∷ 110 ∷ 115 ∷ 119 ∷ 101 ∷ 114 ∷ []) (Syntax.ttcons (Syntax.tcons y0
+    (Syntax.tcons y1 Syntax.tnil)) (Syntax.ttcons (Syntax.tcons y1 Syntax.tnil) (Syntax.ttcons (Syntax.tcons y0 (Syntax.tcons y1
+    Syntax.tnil)) Syntax.ttnil)))
 
 abbrev y8 : Syntax.Ty
 y8 = Syntax.tyRef Syntax.erased Syntax.mut y2
@@ -226,8 +226,8 @@ abbrev y48 : Row.Entry
 y48 = (0, Rows.whole (Declared.row Answer.the-type))
 
 abbrev y49 : Syntax.Ty
-y49 = Syntax.tyStruct (99 ∷ 111 ∷ 110 ∷ 116 ∷ 101 ∷ 120 ∷ 116 ∷ 58 ∷ 58 ∷ 76 ∷ 105 ∷ 109 ∷ 105 ∷ 116 ∷ 115 ∷ []) (Syntax.tcons y0
-    (Syntax.tcons y0 (Syntax.tcons y0 (Syntax.tcons y0 Syntax.tnil))))
+y49 = Syntax.tyStruct (109 ∷ 101 ∷ 116 ∷ 101 ∷ 114 ∷ 58 ∷ 58 ∷ 76 ∷ 105 ∷ 109 ∷ 105 ∷ 116 ∷ 115 ∷ []) (Syntax.tcons y0 (Syntax.tcons y0
+    (Syntax.tcons y0 (Syntax.tcons y0 Syntax.tnil))))
 
 abbrev y50 : Row.Entry
 y50 = (5, Rows.any-gone y49)
@@ -236,7 +236,7 @@ abbrev y51 : Row.Entry
 y51 = (6, Rows.any-gone y1)
 
 abbrev y52 : Syntax.Ty
-y52 = Syntax.tyStruct (99 ∷ 111 ∷ 110 ∷ 116 ∷ 101 ∷ 120 ∷ 116 ∷ 58 ∷ 58 ∷ 83 ∷ 101 ∷ 113 ∷ 117 ∷ 101 ∷ 110 ∷ 116 ∷ []) (Syntax.tcons y0
+y52 = Syntax.tyStruct (109 ∷ 101 ∷ 116 ∷ 101 ∷ 114 ∷ 58 ∷ 58 ∷ 83 ∷ 101 ∷ 113 ∷ 117 ∷ 101 ∷ 110 ∷ 116 ∷ []) (Syntax.tcons y0
     (Syntax.tcons y0 (Syntax.tcons y0 (Syntax.tcons y0 Syntax.tnil))))
 
 abbrev y53 : Row.Entry
@@ -551,8 +551,8 @@ b11 = Syntax.assign (Syntax.place 21 []) (Syntax.aggregate ((Syntax.copy (Syntax
     ((Syntax.field 1) ∷ []))) ∷ []))
 
 abbrev b12 : Syntax.Body
-b12 = Syntax.call "rules::nested" ((Syntax.copy (Syntax.place 19 [])) ∷ (Syntax.copy (Syntax.place 21 [])) ∷ (Syntax.copy (Syntax.place
-    7 [])) ∷ (Syntax.copy (Syntax.place 10 [])) ∷ []) (Syntax.place 17 [])
+b12 = Syntax.call "search_left::nested" ((Syntax.copy (Syntax.place 19 [])) ∷ (Syntax.copy (Syntax.place 21 [])) ∷ (Syntax.copy
+    (Syntax.place 7 [])) ∷ (Syntax.copy (Syntax.place 10 [])) ∷ []) (Syntax.place 17 [])
 
 abbrev b13 : Syntax.Body
 b13 = Syntax.assign (Syntax.place 23 []) (Syntax.addrOf (Syntax.place 1 ((Syntax.field 0) ∷ (Syntax.deref y2) ∷ [])))
@@ -1403,7 +1403,7 @@ module _ (claims· : Claims) where
 
   abbrev s78 : Typed.Mo T81 → Typed.Mo T82
   s78 = Make.n-enum-make Answer.the-type T81 0 λ m. Answer.enum .make (Logic.inr (Logic.inr (Logic.inl
-      (m .1 .1 .1 .1 .1 .1 .1 .1 .1 .1 .1 .1 .1 .1 .0, (m .1 .1 .1 .1 .1 .1 .1 .1 .1 .1 .1 .1 .1 .1 .1 .0, tt)))))  -- told apart: 1.
+      (m .1 .1 .1 .1 .1 .1 .1 .1 .1 .1 .1 .1 .1 .1 .0, (m .1 .1 .1 .1 .1 .1 .1 .1 .1 .1 .1 .1 .1 .1 .1 .0, tt)))))
 
   abbrev s79 : Typed.Mo T82 → Typed.Mo T83
   s79 = Scalar.n-room T82 15 y1
@@ -1445,9 +1445,9 @@ module _ (claims· : Claims) where
     module _ (M : Type 1) where
       abbrev pub Closed : Type 2
       Closed = (𝓤 : URA.URA M) (H : Wp.Heap 𝓤) (A : Atoms.Atoms 𝓤) (W : Kit.Given 𝓤 H A) (𝓣 : Wp.Tables 𝓤 H) (known0 : Plain.Known 𝓤 H A
-          W 𝓣 2 ps·0 r·0 (claims· .0) (claims· .1) "rules::nested") (known1 : Plain.Known 𝓤 H A W 𝓣 4 ps·1 r·1 (claims· .2) (claims· .3)
-          "prove::attempt") → Statement.Triple 𝓤 (Wp.WpFn 𝓤 H (𝓣 .C) (𝓣 .Λ) (Function.fnOf 4 ps r xs m hs body)) (Function.plainOf 𝓤 H A
-          4 ps r Pre· Post·)
+          W 𝓣 2 ps·0 r·0 (claims· .0) (claims· .1) "search_left::nested") (known1 : Plain.Known 𝓤 H A W 𝓣 4 ps·1 r·1 (claims· .2)
+          (claims· .3) "prove::attempt") → Statement.Triple 𝓤 (Wp.WpFn 𝓤 H (𝓣 .C) (𝓣 .Λ) (Function.fnOf 4 ps r xs m hs body))
+          (Function.plainOf 𝓤 H A 4 ps r Pre· Post·)
 
     module _ (Inv·0 : InvT-loop) (μ·0 : MeasureT-loop) where
       abbrev at0 : Typed.TF T12 O4
@@ -1757,8 +1757,8 @@ module _ (claims· : Claims) where
 
       module _ {M : Type 1} (𝓤 : URA.URA M) (H : Wp.Heap 𝓤) (A : Atoms.Atoms 𝓤) (W : Kit.Given 𝓤 H A) (𝓣 : Wp.Tables 𝓤 H) where
         abbrev Knowns : Type 1
-        Knowns = Plain.Known 𝓤 H A W 𝓣 2 ps·0 r·0 (claims· .0) (claims· .1) "rules::nested" × Plain.Known 𝓤 H A W 𝓣 4 ps·1 r·1 (claims·
-            .2) (claims· .3) "prove::attempt"
+        Knowns = Plain.Known 𝓤 H A W 𝓣 2 ps·0 r·0 (claims· .0) (claims· .1) "search_left::nested" × Plain.Known 𝓤 H A W 𝓣 4 ps·1 r·1
+            (claims· .2) (claims· .3) "prove::attempt"
 
       module _ (κs : Lifetimes.Lfts 4) (qs : Lifetimes.Shares 4) where
         abbrev g10 : List.List Row.Entry
@@ -2391,40 +2391,36 @@ module _ (claims· : Claims) where
               Answer.the-type Laws.the-laws Laws.the-plain tt G81 0 ((Scalar.oInt Syntax.w8 2) ∷ (Scalar.oAt 14 y0 (Row.valS (Row.sInt
               Syntax.w64))) ∷ (Scalar.oAt 15 y1 (Laws'5.val State.the-type Laws'3.the-laws)) ∷ []) (λ m. Answer.enum .make (Logic.inr
               (Logic.inr (Logic.inl
-              (m .1 .1 .1 .1 .1 .1 .1 .1 .1 .1 .1 .1 .1 .1 .0, (m .1 .1 .1 .1 .1 .1 .1 .1 .1 .1 .1 .1 .1 .1 .1 .0, tt))))))  -- told apart: 2.
-              (Reads'.room-gone 𝓤 H A y7) ( -- told apart: 3.
-                -- told apart: 25.
-                -- told apart: 26.
-                -- told apart: 27.
-                -- told apart: 28.
+              (m .1 .1 .1 .1 .1 .1 .1 .1 .1 .1 .1 .1 .1 .1 .0, (m .1 .1 .1 .1 .1 .1 .1 .1 .1 .1 .1 .1 .1 .1 .1 .0, tt))))))
+              (Reads'.room-gone 𝓤 H A y7) (
                 tt,
-                ( -- told apart: 4.
-                  (Scalar.reads-sc 𝓤 H A W (Row.sInt Syntax.w64), Path'.refl),  -- told apart: 5.
-                  ((Reads.reads-struct 𝓤 H A W State.the-type Laws'3.the-laws, Path'.refl), tt),  -- told apart: 6.
-                ),  -- told apart: 7.
-              ) Path'.refl (λ m wa. Make.made-val  -- told apart: 8.
+                (
+                  (Scalar.reads-sc 𝓤 H A W (Row.sInt Syntax.w64), Path'.refl),
+                  ((Reads.reads-struct 𝓤 H A W State.the-type Laws'3.the-laws, Path'.refl), tt),
+                ),
+              ) Path'.refl (λ m wa. Make.made-val
               Answer.the-type Laws.the-laws ((Laws.the-laws .1 .1 .0 .0 .val (m .1 .1 .1 .1 .1 .1 .1 .1 .1 .1 .1 .1 .1 .1 .0)) ∷
               (Laws'5.val State.the-type Laws'3.the-laws (m .1 .1 .1 .1 .1 .1 .1 .1 .1 .1 .1 .1 .1 .1 .1 .0)) ∷ []) (Answer.enum .make
               (Logic.inr (Logic.inr (Logic.inl
-              (m .1 .1 .1 .1 .1 .1 .1 .1 .1 .1 .1 .1 .1 .1 .0, (m .1 .1 .1 .1 .1 .1 .1 .1 .1 .1 .1 .1 .1 .1 .1 .0, tt)))))) ( -- told apart: 9.
-                Signed.made-wt Field.u64-field (Laws.the-laws .1 .1 .0 .0) Make'.u64-wt (m .1 .1 .1 .1 .1 .1 .1 .1 .1 .1 .1 .1 .1 .1 .0),  -- told apart: 10.
-                ( -- told apart: 11.
-                  Signed.made-wt State.the-field Laws'3.the-field-laws (Make'.struct-wt State.the-type Laws'3.the-laws  -- told apart: 12.
-                      (Make'.u64-wt, (Make'.u64-wt, (Make'.u64-wt, (Make'.u64-wt, tt))))) (State.the-type .to (m .1 .1 .1 .1 .1 .1 .1 .1 .1 .1  -- told apart: 13.
-                      .1 .1 .1 .1 .1 .0)),  -- told apart: 14.
-                  tt,  -- told apart: 15.
-                ),  -- told apart: 16.
+              (m .1 .1 .1 .1 .1 .1 .1 .1 .1 .1 .1 .1 .1 .1 .0, (m .1 .1 .1 .1 .1 .1 .1 .1 .1 .1 .1 .1 .1 .1 .1 .0, tt)))))) (
+                Signed.made-wt Field.u64-field (Laws.the-laws .1 .1 .0 .0) Make'.u64-wt (m .1 .1 .1 .1 .1 .1 .1 .1 .1 .1 .1 .1 .1 .1 .0),
+                (
+                  Signed.made-wt State.the-field Laws'3.the-field-laws (Make'.struct-wt State.the-type Laws'3.the-laws
+                      (Make'.u64-wt, (Make'.u64-wt, (Make'.u64-wt, (Make'.u64-wt, tt))))) (State.the-type .to (m .1 .1 .1 .1 .1 .1 .1 .1 .1 .1
+                      .1 .1 .1 .1 .1 .0)),
+                  tt,
+                ),
               ) (wa .1)) λ m wa. Make.made-is Answer.the-type Laws.the-laws ((Laws.the-laws .1 .1 .0 .0 .val (m
               .1 .1 .1 .1 .1 .1 .1 .1 .1 .1 .1 .1 .1 .1 .0)) ∷ (Laws'5.val State.the-type Laws'3.the-laws (m .1 .1 .1 .1 .1 .1 .1 .1 .1
               .1 .1 .1 .1 .1 .1 .0)) ∷ []) (Answer.enum .make (Logic.inr (Logic.inr (Logic.inl
-              (m .1 .1 .1 .1 .1 .1 .1 .1 .1 .1 .1 .1 .1 .1 .0, (m .1 .1 .1 .1 .1 .1 .1 .1 .1 .1 .1 .1 .1 .1 .1 .0, tt)))))) ( -- told apart: 17.
-                Signed.made-wt Field.u64-field (Laws.the-laws .1 .1 .0 .0) Make'.u64-wt (m .1 .1 .1 .1 .1 .1 .1 .1 .1 .1 .1 .1 .1 .1 .0),  -- told apart: 18.
-                ( -- told apart: 19.
-                  Signed.made-wt State.the-field Laws'3.the-field-laws (Make'.struct-wt State.the-type Laws'3.the-laws  -- told apart: 20.
-                      (Make'.u64-wt, (Make'.u64-wt, (Make'.u64-wt, (Make'.u64-wt, tt))))) (State.the-type .to (m .1 .1 .1 .1 .1 .1 .1 .1 .1 .1  -- told apart: 21.
-                      .1 .1 .1 .1 .1 .0)),  -- told apart: 22.
-                  tt,  -- told apart: 23.
-                ),  -- told apart: 24.
+              (m .1 .1 .1 .1 .1 .1 .1 .1 .1 .1 .1 .1 .1 .1 .0, (m .1 .1 .1 .1 .1 .1 .1 .1 .1 .1 .1 .1 .1 .1 .1 .0, tt)))))) (
+                Signed.made-wt Field.u64-field (Laws.the-laws .1 .1 .0 .0) Make'.u64-wt (m .1 .1 .1 .1 .1 .1 .1 .1 .1 .1 .1 .1 .1 .1 .0),
+                (
+                  Signed.made-wt State.the-field Laws'3.the-field-laws (Make'.struct-wt State.the-type Laws'3.the-laws
+                      (Make'.u64-wt, (Make'.u64-wt, (Make'.u64-wt, (Make'.u64-wt, tt))))) (State.the-type .to (m .1 .1 .1 .1 .1 .1 .1 .1 .1 .1
+                      .1 .1 .1 .1 .1 .0)),
+                  tt,
+                ),
               ) (wa .1)) d29
 
           d31 : Typed.Typed 𝓤 H A 𝓣 E G80 b34 Δ3 at31
@@ -2827,7 +2823,7 @@ module _ (claims· : Claims) where
 
           d74 : Typed.Typed 𝓤 H A 𝓣 E G23 b47 Δ3 at74
           d74 = Typed.s-seq 𝓤 H A W 𝓣 E G23 G24 b12 b46 Δ3 (Typed.both s20) at73 (Plain.t-call-plain 𝓤 H A W 𝓣 2 ps·0 r·0 (claims· .0)
-              (claims· .1) "rules::nested" (known .0) E (λ pos β. β) G23 (
+              (claims· .1) "search_left::nested" (known .0) E (λ pos β. β) G23 (
                 record
                     { pos = 19; ty = Syntax.tyRef Syntax.erased Syntax.imm y2; ref = λ x. x },
                 (
@@ -3076,31 +3072,32 @@ module _ (claims· : Claims) where
 
       module _ (κs : Lifetimes.Lfts 4) where
         pub record Args : Type 0 where
-          pub f : Kinds.Den {n = 4} κs (MutSlice.pMutS (Referent.rtF (Referent.fInt Syntax.w32)) 0 tt)
-          pub t : Kinds.Den {n = 4} κs (MutSlice.pMutS (Referent.rtF (Referent.fInt Syntax.w16)) 1 tt)
-          pub w : Kinds.Den {n = 4} κs (MutSlice.pMutS Element.row 2 tt)
-          pub k : Kinds.Den {n = 4} κs (ShrSlice.pShrS (Referent.rtF (Referent.fInt Syntax.w8)) 3 tt)
-          pub m : Kinds.Den {n = 4} κs (Value.pVal record {
+          pub words : Kinds.Den {n = 4} κs (MutSlice.pMutS (Referent.rtF (Referent.fInt Syntax.w32)) 0 tt)
+          pub terms : Kinds.Den {n = 4} κs (MutSlice.pMutS (Referent.rtF (Referent.fInt Syntax.w16)) 1 tt)
+          pub work : Kinds.Den {n = 4} κs (MutSlice.pMutS Element.row 2 tt)
+          pub names : Kinds.Den {n = 4} κs (ShrSlice.pShrS (Referent.rtF (Referent.fInt Syntax.w8)) 3 tt)
+          pub limits : Kinds.Den {n = 4} κs (Value.pVal record {
             ty = Declared'.row Limits.the-type;
             one = Path'.refl;
-            val = Laws'5.val
-                Limits.the-type Laws'.the-laws;
+            val =
+                Laws'5.val Limits.the-type Laws'.the-laws;
             tells = Laws'5.tells Limits.the-type Laws'.the-laws;
-            still = Laws'5.still Limits.the-type
-                Laws'.the-copy Exit.yes;
+            still = Laws'5.still
+                Limits.the-type Laws'.the-copy Exit.yes;
             row = Rows.whole (Declared'.row Limits.the-type);
             rd = λ x. x;
             mk = λ x. x;
-          } λ M 𝓤 H A W. record {
-            copies = Laws'5.copy Limits.the-type Laws'.the-copy 𝓤 H A W;
-            lawful = Laws'5.lawful Limits.the-type Laws'.the-laws 𝓤 H A
-                W;
-            makes = Laws'5.makes Limits.the-type Laws'.the-plain 𝓤 H A;
-            in-mem = Local.mem-whole 𝓤 H A W (Declared'.row
-                Limits.the-type);
-            of-mem = Local.whole-mem 𝓤 H A W (Declared'.row Limits.the-type);
-          })
-          pub st : Kinds.Den {n = 4} κs (Value.pVal record {
+          } λ M
+              𝓤 H A W. record {
+                copies = Laws'5.copy Limits.the-type Laws'.the-copy 𝓤 H A W;
+                lawful = Laws'5.lawful Limits.the-type
+                    Laws'.the-laws 𝓤 H A W;
+                makes = Laws'5.makes Limits.the-type Laws'.the-plain 𝓤 H A;
+                in-mem = Local.mem-whole 𝓤 H A W
+                    (Declared'.row Limits.the-type);
+                of-mem = Local.whole-mem 𝓤 H A W (Declared'.row Limits.the-type);
+              })
+          pub state : Kinds.Den {n = 4} κs (Value.pVal record {
             ty = Declared'.row State.the-type;
             one = Path'.refl;
             val = Laws'5.val
@@ -3120,11 +3117,11 @@ module _ (claims· : Claims) where
                 State.the-type);
             of-mem = Local.whole-mem 𝓤 H A W (Declared'.row State.the-type);
           })
-          pub q : Kinds.Den {n = 4} κs (Value.pVal record {
+          pub sequent : Kinds.Den {n = 4} κs (Value.pVal record {
             ty = Declared'.row Sequent.the-type;
             one = Path'.refl;
-            val = Laws'5.val
-                Sequent.the-type Laws''.the-laws;
+            val =
+                Laws'5.val Sequent.the-type Laws''.the-laws;
             tells = Laws'5.tells Sequent.the-type Laws''.the-laws;
             still = Laws'5.still
                 Sequent.the-type Laws''.the-copy Exit.yes;
@@ -3143,7 +3140,7 @@ module _ (claims· : Claims) where
               })
 
         abbrev pub dens : (a : Args) → Kinds.Dens κs ps
-        dens = λ a. (a .f, (a .t, (a .w, (a .k, (a .m, (a .st, (a .q, tt)))))))
+        dens = λ a. (a .words, (a .terms, (a .work, (a .names, (a .limits, (a .state, (a .sequent, tt)))))))
 
       abbrev pub m0 : (κs : Lifetimes.Lfts 4) → (args : Args κs) → Typed.Mo T0
       m0 = λ κs args. (tt, Enter.partsP κs 1 ps xs (dens κs args))
@@ -3229,47 +3226,46 @@ module _ (claims· : Claims) where
           .given)) .now) (Row.get 8 (T7 .locals) (m6 (c .before) (c .shared-slice-known .given))) (Row.get 9 (T7 .locals) (m6 (c
           .before) (c .shared-slice-known .given)))
 
-      abbrev pub m7 : (before : After-shared-slice-known) → (f : List.List (Referent.rtF (Referent.fInt Syntax.w32) .Denot)) → (t :
-          List.List (Referent.rtF (Referent.fInt Syntax.w16) .Denot)) → (w : List.List (Element.row .Denot)) → (s : Rows.whole
-          (Declared'.row State.the-type) .Mod) → (i : Rows.sc-here (Row.sInt Syntax.w64) .Mod) → Typed.Mo T7
-      m7 = λ before f t w s i. Row.set 9 y55 i (Row.setRow 8 y54 (Row.setRow 3 y21 (Row.setRow 2 y19 (Row.setRow 1 y17 (T7 .locals)))))
-          (Row.set 8 y54 s (Row.setRow 3 y21 (Row.setRow 2 y19 (Row.setRow 1 y17 (T7 .locals)))) (Row.set 3 y21 record {
-            ptr = Row.get 3
-                (T7 .locals) (m6 (before .before) (before .shared-slice-known .given)) .ptr;
-            name = Row.get 3 (T7 .locals) (m6 (before
-                .before) (before .shared-slice-known .given)) .name;
-            now = w;
-          } (Row.setRow 2 y19 (Row.setRow 1 y17 (T7 .locals))) (Row.set 2
-          y19 record {
-            ptr = Row.get 2 (T7 .locals) (m6 (before .before) (before .shared-slice-known .given)) .ptr;
-            name = Row.get 2 (T7
-                .locals) (m6 (before .before) (before .shared-slice-known .given)) .name;
-            now = t;
-          } (Row.setRow 1 y17 (T7 .locals)) (Row.set 1
-          y17 record {
-            ptr = Row.get 1 (T7 .locals) (m6 (before .before) (before .shared-slice-known .given)) .ptr;
-            name = Row.get 1 (T7
-                .locals) (m6 (before .before) (before .shared-slice-known .given)) .name;
-            now = f;
-          } (T7 .locals) (m6 (before .before) (before
-          .shared-slice-known .given))))))
+      abbrev pub m7 : (before : After-shared-slice-known) → (words : List.List (Referent.rtF (Referent.fInt Syntax.w32) .Denot)) →
+          (terms : List.List (Referent.rtF (Referent.fInt Syntax.w16) .Denot)) → (work : List.List (Element.row .Denot)) → (s :
+          Rows.whole (Declared'.row State.the-type) .Mod) → (i : Rows.sc-here (Row.sInt Syntax.w64) .Mod) → Typed.Mo T7
+      m7 = λ before words terms work s i. Row.set 9 y55 i (Row.setRow 8 y54 (Row.setRow 3 y21 (Row.setRow 2 y19 (Row.setRow 1 y17 (T7
+          .locals))))) (Row.set 8 y54 s (Row.setRow 3 y21 (Row.setRow 2 y19 (Row.setRow 1 y17 (T7 .locals)))) (Row.set 3 y21 record {
+            ptr = Row.get 3 (T7 .locals) (m6 (before .before) (before .shared-slice-known .given)) .ptr;
+            name = Row.get 3 (T7 .locals)
+                (m6 (before .before) (before .shared-slice-known .given)) .name;
+            now = work;
+          } (Row.setRow 2 y19 (Row.setRow 1 y17 (T7
+          .locals))) (Row.set 2 y19 record {
+            ptr = Row.get 2 (T7 .locals) (m6 (before .before) (before .shared-slice-known .given))
+                .ptr;
+            name = Row.get 2 (T7 .locals) (m6 (before .before) (before .shared-slice-known .given)) .name;
+            now = terms;
+          } (Row.setRow
+          1 y17 (T7 .locals)) (Row.set 1 y17 record {
+            ptr = Row.get 1 (T7 .locals) (m6 (before .before) (before .shared-slice-known
+                .given)) .ptr;
+            name = Row.get 1 (T7 .locals) (m6 (before .before) (before .shared-slice-known .given)) .name;
+            now = words;
+          }
+          (T7 .locals) (m6 (before .before) (before .shared-slice-known .given))))))
 
-      abbrev W3 : (before : After-shared-slice-known) → (f : List.List (Referent.rtF (Referent.fInt Syntax.w32) .Denot)) → (t :
-          List.List (Referent.rtF (Referent.fInt Syntax.w16) .Denot)) → (w : List.List (Element.row .Denot)) → (s : Rows.whole
+      abbrev W3 : (before : After-shared-slice-known) → (words : List.List (Referent.rtF (Referent.fInt Syntax.w32) .Denot)) → (terms :
+          List.List (Referent.rtF (Referent.fInt Syntax.w16) .Denot)) → (work : List.List (Element.row .Denot)) → (s : Rows.whole
           (Declared'.row State.the-type) .Mod) → (i : Rows.sc-here (Row.sInt Syntax.w64) .Mod) → Typed.Want O3
-      W3 = λ before f t w s i. Typed.inLoop T7 O2 (Typed.Round T7 O2 put0 (λ u vs. Inv·0 (Row.get 1 (T7 .locals) u .now) (Row.get 2 (T7
-          .locals) u .now) (Row.get 3 (T7 .locals) u .now) (Row.get 4 (T7 .locals) u .now) (Row.get 5 (T7 .locals) u) (Row.get 7 (T7
-          .locals) u) (Row.get 8 (T7 .locals) u) (Row.get 9 (T7 .locals) u) (vs .0) (vs .1) (vs .2) (vs .3) (vs .4)) (λ u vs. μ·0
-          (Row.get 1 (T7 .locals) u .now) (Row.get 2 (T7 .locals) u .now) (Row.get 3 (T7 .locals) u .now) (Row.get 4 (T7 .locals) u
-          .now) (Row.get 5 (T7 .locals) u) (Row.get 7 (T7 .locals) u) (Row.get 8 (T7 .locals) u) (Row.get 9 (T7 .locals) u) (vs .0) (vs
-          .1) (vs .2) (vs .3) (vs .4)) at85 (m6 (before .before) (before .shared-slice-known .given)) (f, t, w, s, i)) (W2 (before
-          .before) (before .shared-slice-known .given))
+      W3 = λ before words terms work s i. Typed.inLoop T7 O2 (Typed.Round T7 O2 put0 (λ u vs. Inv·0 (Row.get 1 (T7 .locals) u .now)
+          (Row.get 2 (T7 .locals) u .now) (Row.get 3 (T7 .locals) u .now) (Row.get 4 (T7 .locals) u .now) (Row.get 5 (T7 .locals) u)
+          (Row.get 7 (T7 .locals) u) (Row.get 8 (T7 .locals) u) (Row.get 9 (T7 .locals) u) (vs .0) (vs .1) (vs .2) (vs .3) (vs .4)) (λ u
+          vs. μ·0 (Row.get 1 (T7 .locals) u .now) (Row.get 2 (T7 .locals) u .now) (Row.get 3 (T7 .locals) u .now) (Row.get 4 (T7
+          .locals) u .now) (Row.get 5 (T7 .locals) u) (Row.get 7 (T7 .locals) u) (Row.get 8 (T7 .locals) u) (Row.get 9 (T7 .locals) u)
+          (vs .0) (vs .1) (vs .2) (vs .3) (vs .4)) at85 (m6 (before .before) (before .shared-slice-known .given))
+          (words, terms, work, s, i)) (W2 (before .before) (before .shared-slice-known .given))
 
       module _ (before· : After-shared-slice-known) where
         pub record At-loop·own : Type 0 where
-          pub f : List.List (Referent.rtF (Referent.fInt Syntax.w32) .Denot)
-          pub t : List.List (Referent.rtF (Referent.fInt Syntax.w16) .Denot)
-          pub w : List.List (Element.row .Denot)
+          pub words : List.List (Referent.rtF (Referent.fInt Syntax.w32) .Denot)
+          pub terms : List.List (Referent.rtF (Referent.fInt Syntax.w16) .Denot)
+          pub work : List.List (Element.row .Denot)
           pub s : Rows.whole (Declared'.row State.the-type) .Mod
           pub i : Rows.sc-here (Row.sInt Syntax.w64) .Mod
           pub inv : Inv·0 (Row.get 1 (T7 .locals) (m6 (before· .before) (before· .shared-slice-known .given)) .now) (Row.get 2 (T7
@@ -3278,31 +3274,31 @@ module _ (claims· : Claims) where
               .given)) .now) (Row.get 5 (T7 .locals) (m6 (before· .before) (before· .shared-slice-known .given))) (Row.get 7 (T7
               .locals) (m6 (before· .before) (before· .shared-slice-known .given))) (Row.get 8 (T7 .locals) (m6 (before· .before)
               (before· .shared-slice-known .given))) (Row.get 9 (T7 .locals) (m6 (before· .before) (before· .shared-slice-known
-              .given))) f t w s i
+              .given))) words terms work s i
 
       pub record At-loop : Type 0 where
         pub before : After-shared-slice-known
         pub loop : At-loop·own before
 
-      abbrev pub m8 : (before : At-loop) → (given : s6 .gives (m7 (before .before) (before .loop .f) (before .loop .t) (before .loop .w)
-          (before .loop .s) (before .loop .i))) → Typed.Mo T9
-      m8 = λ before given. s6 .next (m7 (before .before) (before .loop .f) (before .loop .t) (before .loop .w) (before .loop .s) (before
-          .loop .i)) given
+      abbrev pub m8 : (before : At-loop) → (given : s6 .gives (m7 (before .before) (before .loop .words) (before .loop .terms) (before
+          .loop .work) (before .loop .s) (before .loop .i))) → Typed.Mo T9
+      m8 = λ before given. s6 .next (m7 (before .before) (before .loop .words) (before .loop .terms) (before .loop .work) (before .loop
+          .s) (before .loop .i)) given
 
-      abbrev pub m9 : (before : At-loop) → (given : s6 .gives (m7 (before .before) (before .loop .f) (before .loop .t) (before .loop .w)
-          (before .loop .s) (before .loop .i))) → Typed.Mo T10
+      abbrev pub m9 : (before : At-loop) → (given : s6 .gives (m7 (before .before) (before .loop .words) (before .loop .terms) (before
+          .loop .work) (before .loop .s) (before .loop .i))) → Typed.Mo T10
       m9 = λ before given. s7 .next (m8 before given)
 
-      abbrev W4 : (before : At-loop) → (given : s6 .gives (m7 (before .before) (before .loop .f) (before .loop .t) (before .loop .w)
-          (before .loop .s) (before .loop .i))) → Typed.Want O4
-      W4 = λ before given. Typed.wantNext T11 O3 (at82 (W3 (before .before) (before .loop .f) (before .loop .t) (before .loop .w)
-          (before .loop .s) (before .loop .i))) (W3 (before .before) (before .loop .f) (before .loop .t) (before .loop .w) (before .loop
-          .s) (before .loop .i))
+      abbrev W4 : (before : At-loop) → (given : s6 .gives (m7 (before .before) (before .loop .words) (before .loop .terms) (before .loop
+          .work) (before .loop .s) (before .loop .i))) → Typed.Want O4
+      W4 = λ before given. Typed.wantNext T11 O3 (at82 (W3 (before .before) (before .loop .words) (before .loop .terms) (before .loop
+          .work) (before .loop .s) (before .loop .i))) (W3 (before .before) (before .loop .words) (before .loop .terms) (before .loop
+          .work) (before .loop .s) (before .loop .i))
 
       module _ (before· : At-loop) where
         pub record After-struct-known·own : Type 0 where
-          pub given : s6 .gives (m7 (before· .before) (before· .loop .f) (before· .loop .t) (before· .loop .w) (before· .loop .s)
-              (before· .loop .i))
+          pub given : s6 .gives (m7 (before· .before) (before· .loop .words) (before· .loop .terms) (before· .loop .work) (before· .loop
+              .s) (before· .loop .i))
 
       pub record After-struct-known : Type 0 where
         pub before : At-loop
@@ -3560,22 +3556,22 @@ module _ (claims· : Claims) where
       m34 = λ before given. s42 .next (m33 (before .before) (After-attempt·gave before)) given
 
       module _ (before· : After-attempt) where
-        pub record After-f·own : Type 0 where
+        pub record After-words·own : Type 0 where
           pub given : s42 .gives (m33 (before· .before) (After-attempt·gave before·))
 
-      pub record After-f : Type 0 where
+      pub record After-words : Type 0 where
         pub before : After-attempt
-        pub f : After-f·own before
+        pub words : After-words·own before
 
-      abbrev pub m35 : (before : After-f) → (given : s43 .gives (m34 (before .before) (before .f .given))) → Typed.Mo T47
-      m35 = λ before given. s43 .next (m34 (before .before) (before .f .given)) given
+      abbrev pub m35 : (before : After-words) → (given : s43 .gives (m34 (before .before) (before .words .given))) → Typed.Mo T47
+      m35 = λ before given. s43 .next (m34 (before .before) (before .words .given)) given
 
-      module _ (before· : After-f) where
+      module _ (before· : After-words) where
         pub record After-slice-known3·own : Type 0 where
-          pub given : s43 .gives (m34 (before· .before) (before· .f .given))
+          pub given : s43 .gives (m34 (before· .before) (before· .words .given))
 
       pub record After-slice-known3 : Type 0 where
-        pub before : After-f
+        pub before : After-words
         pub slice-known3 : After-slice-known3·own before
 
       abbrev pub m36 : (before : After-slice-known3) → (given : s46 .gives (m35 (before .before) (before .slice-known3 .given))) →
@@ -3583,22 +3579,22 @@ module _ (claims· : Claims) where
       m36 = λ before given. s46 .next (m35 (before .before) (before .slice-known3 .given)) given
 
       module _ (before· : After-slice-known3) where
-        pub record After-t·own : Type 0 where
+        pub record After-terms·own : Type 0 where
           pub given : s46 .gives (m35 (before· .before) (before· .slice-known3 .given))
 
-      pub record After-t : Type 0 where
+      pub record After-terms : Type 0 where
         pub before : After-slice-known3
-        pub t : After-t·own before
+        pub terms : After-terms·own before
 
-      abbrev pub m37 : (before : After-t) → (given : s47 .gives (m36 (before .before) (before .t .given))) → Typed.Mo T51
-      m37 = λ before given. s47 .next (m36 (before .before) (before .t .given)) given
+      abbrev pub m37 : (before : After-terms) → (given : s47 .gives (m36 (before .before) (before .terms .given))) → Typed.Mo T51
+      m37 = λ before given. s47 .next (m36 (before .before) (before .terms .given)) given
 
-      module _ (before· : After-t) where
+      module _ (before· : After-terms) where
         pub record After-slice-known4·own : Type 0 where
-          pub given : s47 .gives (m36 (before· .before) (before· .t .given))
+          pub given : s47 .gives (m36 (before· .before) (before· .terms .given))
 
       pub record After-slice-known4 : Type 0 where
-        pub before : After-t
+        pub before : After-terms
         pub slice-known4 : After-slice-known4·own before
 
       abbrev pub m38 : (before : After-slice-known4) → (given : s50 .gives (m37 (before .before) (before .slice-known4 .given))) →
@@ -3606,32 +3602,32 @@ module _ (claims· : Claims) where
       m38 = λ before given. s50 .next (m37 (before .before) (before .slice-known4 .given)) given
 
       module _ (before· : After-slice-known4) where
-        pub record After-w·own : Type 0 where
+        pub record After-work·own : Type 0 where
           pub given : s50 .gives (m37 (before· .before) (before· .slice-known4 .given))
 
-      pub record After-w : Type 0 where
+      pub record After-work : Type 0 where
         pub before : After-slice-known4
-        pub w : After-w·own before
+        pub work : After-work·own before
 
-      module _ (before· : After-w) where
+      module _ (before· : After-work) where
         pub record At-match-keys1·own : Type 0 where
-          pub keys1 : Run.OneOf (0 ∷ []) (Declared.tagOf Answer.the-type (Row.get 22 (T54 .locals) (m38 (before· .before) (before· .w
+          pub keys1 : Run.OneOf (0 ∷ []) (Declared.tagOf Answer.the-type (Row.get 22 (T54 .locals) (m38 (before· .before) (before· .work
               .given))))
 
       pub record At-match-keys1 : Type 0 where
-        pub before : After-w
+        pub before : After-work
         pub match : At-match-keys1·own before
 
       abbrev pub Need-enum-known-j : Type 0
-      Need-enum-known-j = (c : At-match-keys1) → s52 .asks (m38 (c .before .before) (c .before .w .given))
+      Need-enum-known-j = (c : At-match-keys1) → s52 .asks (m38 (c .before .before) (c .before .work .given))
 
-      abbrev pub m39 : (before : At-match-keys1) → (given : s52 .gives (m38 (before .before .before) (before .before .w .given))) →
+      abbrev pub m39 : (before : At-match-keys1) → (given : s52 .gives (m38 (before .before .before) (before .before .work .given))) →
           Typed.Mo T56
-      m39 = λ before given. s52 .next (m38 (before .before .before) (before .before .w .given)) given
+      m39 = λ before given. s52 .next (m38 (before .before .before) (before .before .work .given)) given
 
       module _ (before· : At-match-keys1) where
         pub record After-j·own : Type 0 where
-          pub given : s52 .gives (m38 (before· .before .before) (before· .before .w .given))
+          pub given : s52 .gives (m38 (before· .before .before) (before· .before .work .given))
 
       pub record After-j : Type 0 where
         pub before : At-match-keys1
@@ -3718,25 +3714,25 @@ module _ (claims· : Claims) where
           (c .before .before .before .before .before .before .before .before .before .before .before .before .before .before .before
           .before .before .before .before .before .before .before .args)) (m50 (c .before) (c .known-told .given) .1)))
 
-      module _ (before· : After-w) where
+      module _ (before· : After-work) where
         pub record At-match-keys2·own : Type 0 where
-          pub keys2 : Run.OneOf (1 ∷ []) (Declared.tagOf Answer.the-type (Row.get 22 (T54 .locals) (m38 (before· .before) (before· .w
+          pub keys2 : Run.OneOf (1 ∷ []) (Declared.tagOf Answer.the-type (Row.get 22 (T54 .locals) (m38 (before· .before) (before· .work
               .given))))
 
       pub record At-match-keys2 : Type 0 where
-        pub before : After-w
+        pub before : After-work
         pub match : At-match-keys2·own before
 
       abbrev pub Need-enum-known-s1 : Type 0
-      Need-enum-known-s1 = (c : At-match-keys2) → s64 .asks (m38 (c .before .before) (c .before .w .given))
+      Need-enum-known-s1 = (c : At-match-keys2) → s64 .asks (m38 (c .before .before) (c .before .work .given))
 
-      abbrev pub m51 : (before : At-match-keys2) → (given : s64 .gives (m38 (before .before .before) (before .before .w .given))) →
+      abbrev pub m51 : (before : At-match-keys2) → (given : s64 .gives (m38 (before .before .before) (before .before .work .given))) →
           Typed.Mo T68
-      m51 = λ before given. s64 .next (m38 (before .before .before) (before .before .w .given)) given
+      m51 = λ before given. s64 .next (m38 (before .before .before) (before .before .work .given)) given
 
       module _ (before· : At-match-keys2) where
         pub record After-s1·own : Type 0 where
-          pub given : s64 .gives (m38 (before· .before .before) (before· .before .w .given))
+          pub given : s64 .gives (m38 (before· .before .before) (before· .before .work .given))
 
       pub record After-s1 : Type 0 where
         pub before : At-match-keys2
@@ -3822,12 +3818,13 @@ module _ (claims· : Claims) where
           .before .before .before .before .before .before .before .before .before .before .before .before .before .before .before
           .before) (c .before .before .before .before .before .before .before .before .before .before .before .before .before .before
           .before .before .before .before .before .shared-slice-known .given))) (c .before .before .before .before .before .before
-          .before .before .before .before .before .before .before .before .before .before .before .before .loop .f) (c .before .before
+          .before .before .before .before .before .before .before .before .before .before .before .before .loop .words) (c .before
           .before .before .before .before .before .before .before .before .before .before .before .before .before .before .before
-          .before .loop .t) (c .before .before .before .before .before .before .before .before .before .before .before .before .before
-          .before .before .before .before .before .loop .w) (c .before .before .before .before .before .before .before .before .before
-          .before .before .before .before .before .before .before .before .before .loop .s) (c .before .before .before .before .before
-          .before .before .before .before .before .before .before .before .before .before .before .before .before .loop .i))
+          .before .before .loop .terms) (c .before .before .before .before .before .before .before .before .before .before .before
+          .before .before .before .before .before .before .before .loop .work) (c .before .before .before .before .before .before
+          .before .before .before .before .before .before .before .before .before .before .before .before .loop .s) (c .before .before
+          .before .before .before .before .before .before .before .before .before .before .before .before .before .before .before
+          .before .loop .i))
 
       abbrev pub Need-loop-again : Type 0
       Need-loop-again = (c : After-known-told2) → Inv·0 (Row.get 1 (T7 .locals) (m6 (c .before .before .before .before .before .before
@@ -3859,25 +3856,25 @@ module _ (claims· : Claims) where
           .given)) .now) (Row.get 3 (T7 .locals) (m57 (c .before) (c .known-told2 .given)) .now) (Row.get 8 (T7 .locals) (m57 (c
           .before) (c .known-told2 .given))) (Row.get 9 (T7 .locals) (m57 (c .before) (c .known-told2 .given)))
 
-      module _ (before· : After-w) where
+      module _ (before· : After-work) where
         pub record At-match-keys3·own : Type 0 where
-          pub keys3 : Run.OneOf (2 ∷ []) (Declared.tagOf Answer.the-type (Row.get 22 (T54 .locals) (m38 (before· .before) (before· .w
+          pub keys3 : Run.OneOf (2 ∷ []) (Declared.tagOf Answer.the-type (Row.get 22 (T54 .locals) (m38 (before· .before) (before· .work
               .given))))
 
       pub record At-match-keys3 : Type 0 where
-        pub before : After-w
+        pub before : After-work
         pub match : At-match-keys3·own before
 
       abbrev pub Need-enum-known-n : Type 0
-      Need-enum-known-n = (c : At-match-keys3) → s71 .asks (m38 (c .before .before) (c .before .w .given))
+      Need-enum-known-n = (c : At-match-keys3) → s71 .asks (m38 (c .before .before) (c .before .work .given))
 
-      abbrev pub m58 : (before : At-match-keys3) → (given : s71 .gives (m38 (before .before .before) (before .before .w .given))) →
+      abbrev pub m58 : (before : At-match-keys3) → (given : s71 .gives (m38 (before .before .before) (before .before .work .given))) →
           Typed.Mo T75
-      m58 = λ before given. s71 .next (m38 (before .before .before) (before .before .w .given)) given
+      m58 = λ before given. s71 .next (m38 (before .before .before) (before .before .work .given)) given
 
       module _ (before· : At-match-keys3) where
         pub record After-n·own : Type 0 where
-          pub given : s71 .gives (m38 (before· .before .before) (before· .before .w .given))
+          pub given : s71 .gives (m38 (before· .before .before) (before· .before .work .given))
 
       pub record After-n : Type 0 where
         pub before : At-match-keys3
@@ -4006,9 +4003,9 @@ module _ (claims· : Claims) where
           .before .before .before .before .before .before .before .before) (c .before .before .before .before .before .before .before
           .shared-slice-known .given))) (Row.get 9 (T7 .locals) (m6 (c .before .before .before .before .before .before .before .before)
           (c .before .before .before .before .before .before .before .shared-slice-known .given))) (c .before .before .before .before
-          .before .before .loop .f) (c .before .before .before .before .before .before .loop .t) (c .before .before .before .before
-          .before .before .loop .w) (c .before .before .before .before .before .before .loop .s) (c .before .before .before .before
-          .before .before .loop .i))
+          .before .before .loop .words) (c .before .before .before .before .before .before .loop .terms) (c .before .before .before
+          .before .before .before .loop .work) (c .before .before .before .before .before .before .loop .s) (c .before .before .before
+          .before .before .before .loop .i))
 
       abbrev pub Need-loop-again-2 : Type 0
       Need-loop-again-2 = (c : Else2) → Inv·0 (Row.get 1 (T7 .locals) (m6 (c .before .before .before .before .before .before .before
@@ -4086,11 +4083,11 @@ module _ (claims· : Claims) where
         )
 
         lay5 : (c : After-attempt) → at50 (W3 (c .before .before .before .before .before .before .before .before .before .before
-            .before) (c .before .before .before .before .before .before .before .before .before .before .loop .f) (c .before .before
-            .before .before .before .before .before .before .before .before .loop .t) (c .before .before .before .before .before .before
-            .before .before .before .before .loop .w) (c .before .before .before .before .before .before .before .before .before .before
-            .loop .s) (c .before .before .before .before .before .before .before .before .before .before .loop .i)) (m32 (c .before)
-            (After-attempt·gave c))
+            .before) (c .before .before .before .before .before .before .before .before .before .before .loop .words) (c .before .before
+            .before .before .before .before .before .before .before .before .loop .terms) (c .before .before .before .before .before
+            .before .before .before .before .before .loop .work) (c .before .before .before .before .before .before .before .before
+            .before .before .loop .s) (c .before .before .before .before .before .before .before .before .before .before .loop .i)) (m32
+            (c .before) (After-attempt·gave c))
         lay5 = λ c. (
           Path'.refl,
           λ g. λ g'. (
@@ -4105,295 +4102,301 @@ module _ (claims· : Claims) where
                         before = record {
                           before = record {
                             before = record
-                                { before = record { before = c .before; attempt = c .attempt }; f = record { given = g } };
+                                { before = record { before = c .before; attempt = c .attempt }; words = record { given = g } };
                             slice-known3 = record
                                 { given = g' };
                           };
-                          t = record { given = g'' };
+                          terms = record { given = g'' };
                         };
                         slice-known4 = record { given = g'3 };
                       };
-                      w = record { given = g'4 };
+                      work = record
+                          { given = g'4 };
                     };
-                    match
-                        = record { keys1 = k };
+                    match = record { keys1 = k };
                   },
                   λ g'5. λ g'6. (
                     (
                       MutSlice.fix-len (Row.get 1 (T67 .locals) (m50 record {
                         before = record {
-                          before =
-                              record {
+                          before = record {
+                            before = record {
+                              before = record {
+                                before = record {
+                                  before = record
+                                      { before = record { before = c .before; attempt = c .attempt }; words = record { given = g } };
+                                  slice-known3 = record
+                                      { given = g' };
+                                };
+                                terms = record { given = g'' };
+                              };
+                              slice-known4 = record { given = g'3 };
+                            };
+                            work = record
+                                { given = g'4 };
+                          };
+                          match = record { keys1 = k };
+                        };
+                        j = record { given = g'5 };
+                      } g'6) .ptr) (Row.get 1 (T67 .locals) (m50
+                          record {
+                            before = record {
+                              before = record {
                                 before = record {
                                   before = record {
                                     before = record {
                                       before = record
-                                          { before = record { before = c .before; attempt = c .attempt }; f = record { given = g } };
+                                          { before = record { before = c .before; attempt = c .attempt }; words = record { given = g } };
                                       slice-known3 = record
                                           { given = g' };
                                     };
-                                    t = record { given = g'' };
+                                    terms = record { given = g'' };
                                   };
                                   slice-known4 = record { given = g'3 };
                                 };
-                                w = record { given = g'4 };
+                                work = record
+                                    { given = g'4 };
                               };
-                          match
-                              = record { keys1 = k };
-                        };
-                        j = record { given = g'5 };
-                      } g'6) .ptr) (Row.get 1 (T67 .locals) (m50 record {
-                        before = record {
-                          before = record {
+                              match = record { keys1 = k };
+                            };
+                            j = record { given = g'5 };
+                          } g'6) .name) (Row.get 1 (T67 .locals) (m50
+                          record {
                             before = record {
                               before = record {
                                 before = record {
-                                  before = record
-                                      { before = record { before = c .before; attempt = c .attempt }; f = record { given = g } };
-                                  slice-known3 = record
-                                      { given = g' };
+                                  before = record {
+                                    before = record {
+                                      before = record
+                                          { before = record { before = c .before; attempt = c .attempt }; words = record { given = g } };
+                                      slice-known3 = record
+                                          { given = g' };
+                                    };
+                                    terms = record { given = g'' };
+                                  };
+                                  slice-known4 = record { given = g'3 };
                                 };
-                                t = record { given = g'' };
+                                work = record
+                                    { given = g'4 };
                               };
-                              slice-known4 = record { given = g'3 };
+                              match = record { keys1 = k };
                             };
-                            w = record { given = g'4 };
-                          };
-                          match
-                              = record { keys1 = k };
-                        };
-                        j = record { given = g'5 };
-                      } g'6) .name) (Row.get 1 (T67 .locals) (m50 record {
-                        before = record {
-                          before = record {
-                            before = record {
-                              before = record {
-                                before = record {
-                                  before = record
-                                      { before = record { before = c .before; attempt = c .attempt }; f = record { given = g } };
-                                  slice-known3 = record
-                                      { given = g' };
-                                };
-                                t = record { given = g'' };
-                              };
-                              slice-known4 = record { given = g'3 };
-                            };
-                            w = record { given = g'4 };
-                          };
-                          match
-                              = record { keys1 = k };
-                        };
-                        j = record { given = g'5 };
-                      } g'6) .now) (dens (c .before .before .before .before .before .before
-                          .before .before .before .before .before .before .before .before .κs) (c .before .before .before .before .before .before
-                          .before .before .before .before .before .before .before .before .args) .0 .now) (same-length record {
+                            j = record { given = g'5 };
+                          } g'6) .now) (dens (c .before .before .before
+                          .before .before .before .before .before .before .before .before .before .before .before .κs) (c .before .before .before
+                          .before .before .before .before .before .before .before .before .before .before .before .args) .0 .now) (same-length record {
                             before = record {
                               before = record {
                                 before = record {
                                   before = record {
                                     before = record {
                                       before = record {
-                                        before = record
-                                            { before = record { before = c .before; attempt = c .attempt }; f = record { given = g } };
+                                        before =
+                                            record { before = record { before = c .before; attempt = c .attempt }; words = record { given = g } };
                                         slice-known3 = record
                                             { given = g' };
                                       };
-                                      t = record { given = g'' };
+                                      terms = record { given = g'' };
                                     };
                                     slice-known4 = record { given = g'3 };
                                   };
-                                  w = record { given = g'4 };
+                                  work = record
+                                      { given = g'4 };
                                 };
-                                match
-                                    = record { keys1 = k };
+                                match = record { keys1 = k };
                               };
                               j = record { given = g'5 };
                             };
                             known-told = record { given = g'6 };
                           }),
                       (
-                        MutSlice.fix-len (Row.get 2
-                            (T67 .locals) (m50 record {
+                        MutSlice.fix-len (Row.get 2 (T67 .locals) (m50 record {
+                          before = record {
+                            before = record {
                               before = record {
-                                before = record {
-                                  before = record {
-                                    before = record {
+                                before =
+                                    record {
                                       before = record {
-                                        before
-                                            = record { before = record { before = c .before; attempt = c .attempt }; f = record { given = g } };
+                                        before = record
+                                            { before = record { before = c .before; attempt = c .attempt }; words = record { given = g } };
                                         slice-known3 = record
                                             { given = g' };
                                       };
-                                      t = record { given = g'' };
+                                      terms = record { given = g'' };
                                     };
-                                    slice-known4 = record { given = g'3 };
-                                  };
-                                  w = record { given = g'4 };
-                                };
-                                match
-                                    = record { keys1 = k };
+                                slice-known4 = record { given = g'3 };
                               };
-                              j = record { given = g'5 };
-                            } g'6) .ptr) (Row.get 2 (T67 .locals) (m50 record {
+                              work = record
+                                  { given = g'4 };
+                            };
+                            match = record { keys1 = k };
+                          };
+                          j = record { given = g'5 };
+                        } g'6) .ptr) (Row.get 2 (T67 .locals) (m50
+                            record {
                               before = record {
                                 before = record {
                                   before = record {
                                     before = record {
                                       before = record {
                                         before = record
-                                            { before = record { before = c .before; attempt = c .attempt }; f = record { given = g } };
+                                            { before = record { before = c .before; attempt = c .attempt }; words = record { given = g } };
                                         slice-known3 = record
                                             { given = g' };
                                       };
-                                      t = record { given = g'' };
+                                      terms = record { given = g'' };
                                     };
                                     slice-known4 = record { given = g'3 };
                                   };
-                                  w = record { given = g'4 };
+                                  work = record
+                                      { given = g'4 };
                                 };
-                                match
-                                    = record { keys1 = k };
+                                match = record { keys1 = k };
                               };
                               j = record { given = g'5 };
-                            } g'6) .name) (Row.get 2 (T67 .locals) (m50 record {
+                            } g'6) .name) (Row.get 2 (T67 .locals) (m50
+                            record {
                               before = record {
                                 before = record {
                                   before = record {
                                     before = record {
                                       before = record {
                                         before = record
-                                            { before = record { before = c .before; attempt = c .attempt }; f = record { given = g } };
+                                            { before = record { before = c .before; attempt = c .attempt }; words = record { given = g } };
                                         slice-known3 = record
                                             { given = g' };
                                       };
-                                      t = record { given = g'' };
+                                      terms = record { given = g'' };
                                     };
                                     slice-known4 = record { given = g'3 };
                                   };
-                                  w = record { given = g'4 };
+                                  work = record
+                                      { given = g'4 };
                                 };
-                                match
-                                    = record { keys1 = k };
+                                match = record { keys1 = k };
                               };
                               j = record { given = g'5 };
-                            } g'6) .now) (dens (c .before .before .before .before .before .before
-                            .before .before .before .before .before .before .before .before .κs) (c .before .before .before .before .before .before
-                            .before .before .before .before .before .before .before .before .args) .1 .0 .now) (same-length-2 record {
+                            } g'6) .now) (dens (c .before .before .before
+                            .before .before .before .before .before .before .before .before .before .before .before .κs) (c .before .before .before
+                            .before .before .before .before .before .before .before .before .before .before .before .args) .1 .0 .now) (same-length-2
+                            record {
                               before = record {
-                                before = record {
-                                  before = record {
-                                    before = record {
-                                      before = record {
-                                        before = record {
-                                          before = record
-                                              { before = record { before = c .before; attempt = c .attempt }; f = record { given = g } };
-                                          slice-known3 = record
-                                              { given = g' };
-                                        };
-                                        t = record { given = g'' };
-                                      };
-                                      slice-known4 = record { given = g'3 };
-                                    };
-                                    w = record { given = g'4 };
-                                  };
-                                  match
-                                      = record { keys1 = k };
-                                };
-                                j = record { given = g'5 };
-                              };
-                              known-told = record { given = g'6 };
-                            }),
-                        (
-                          MutSlice.fix-len (Row.get 3
-                              (T67 .locals) (m50 record {
                                 before = record {
                                   before = record {
                                     before = record {
                                       before = record {
                                         before = record {
                                           before
-                                              = record { before = record { before = c .before; attempt = c .attempt }; f = record { given = g } };
-                                          slice-known3 = record
-                                              { given = g' };
+                                              = record { before = record { before = c .before; attempt = c .attempt }; words = record { given = g } };
+                                          slice-known3 =
+                                              record { given = g' };
                                         };
-                                        t = record { given = g'' };
+                                        terms = record { given = g'' };
                                       };
                                       slice-known4 = record { given = g'3 };
                                     };
-                                    w = record { given = g'4 };
+                                    work = record
+                                        { given = g'4 };
                                   };
-                                  match
-                                      = record { keys1 = k };
+                                  match = record { keys1 = k };
                                 };
                                 j = record { given = g'5 };
-                              } g'6) .ptr) (Row.get 3 (T67 .locals) (m50 record {
+                              };
+                              known-told = record { given = g'6 };
+                            }),
+                        (
+                          MutSlice.fix-len (Row.get 3 (T67 .locals) (m50 record {
+                            before = record {
+                              before = record {
+                                before = record {
+                                  before =
+                                      record {
+                                        before = record {
+                                          before = record
+                                              { before = record { before = c .before; attempt = c .attempt }; words = record { given = g } };
+                                          slice-known3 = record
+                                              { given = g' };
+                                        };
+                                        terms = record { given = g'' };
+                                      };
+                                  slice-known4 = record { given = g'3 };
+                                };
+                                work = record
+                                    { given = g'4 };
+                              };
+                              match = record { keys1 = k };
+                            };
+                            j = record { given = g'5 };
+                          } g'6) .ptr) (Row.get 3 (T67 .locals) (m50
+                              record {
                                 before = record {
                                   before = record {
                                     before = record {
                                       before = record {
                                         before = record {
                                           before = record
-                                              { before = record { before = c .before; attempt = c .attempt }; f = record { given = g } };
+                                              { before = record { before = c .before; attempt = c .attempt }; words = record { given = g } };
                                           slice-known3 = record
                                               { given = g' };
                                         };
-                                        t = record { given = g'' };
+                                        terms = record { given = g'' };
                                       };
                                       slice-known4 = record { given = g'3 };
                                     };
-                                    w = record { given = g'4 };
+                                    work = record
+                                        { given = g'4 };
                                   };
-                                  match
-                                      = record { keys1 = k };
+                                  match = record { keys1 = k };
                                 };
                                 j = record { given = g'5 };
-                              } g'6) .name) (Row.get 3 (T67 .locals) (m50 record {
+                              } g'6) .name) (Row.get 3 (T67 .locals) (m50
+                              record {
                                 before = record {
                                   before = record {
                                     before = record {
                                       before = record {
                                         before = record {
                                           before = record
-                                              { before = record { before = c .before; attempt = c .attempt }; f = record { given = g } };
+                                              { before = record { before = c .before; attempt = c .attempt }; words = record { given = g } };
                                           slice-known3 = record
                                               { given = g' };
                                         };
-                                        t = record { given = g'' };
+                                        terms = record { given = g'' };
                                       };
                                       slice-known4 = record { given = g'3 };
                                     };
-                                    w = record { given = g'4 };
+                                    work = record
+                                        { given = g'4 };
                                   };
-                                  match
-                                      = record { keys1 = k };
+                                  match = record { keys1 = k };
                                 };
                                 j = record { given = g'5 };
-                              } g'6) .now) (dens (c .before .before .before .before .before .before
-                              .before .before .before .before .before .before .before .before .κs) (c .before .before .before .before .before .before
-                              .before .before .before .before .before .before .before .before .args) .1 .1 .0 .now) (same-length-3 record {
-                                before =
-                                    record {
+                              } g'6) .now) (dens (c .before .before .before
+                              .before .before .before .before .before .before .before .before .before .before .before .κs) (c .before .before .before
+                              .before .before .before .before .before .before .before .before .before .before .before .args) .1 .1 .0 .now) (same-length-3
+                              record {
+                                before = record {
+                                  before = record {
+                                    before = record {
                                       before = record {
                                         before = record {
                                           before = record {
-                                            before = record {
-                                              before = record {
-                                                before = record
-                                                    { before = record { before = c .before; attempt = c .attempt }; f = record { given = g } };
-                                                slice-known3 = record
-                                                    { given = g' };
-                                              };
-                                              t = record { given = g'' };
-                                            };
-                                            slice-known4 = record { given = g'3 };
+                                            before
+                                                = record { before = record { before = c .before; attempt = c .attempt }; words = record { given = g } };
+                                            slice-known3 =
+                                                record { given = g' };
                                           };
-                                          w = record { given = g'4 };
+                                          terms = record { given = g'' };
                                         };
-                                        match
-                                            = record { keys1 = k };
+                                        slice-known4 = record { given = g'3 };
                                       };
-                                      j = record { given = g'5 };
+                                      work = record
+                                          { given = g'4 };
                                     };
+                                    match = record { keys1 = k };
+                                  };
+                                  j = record { given = g'5 };
+                                };
                                 known-told = record { given = g'6 };
                               }),
                           (Path'.refl, (tt, (tt, (tt, tt)))),
@@ -4409,18 +4412,18 @@ module _ (claims· : Claims) where
                                   before = record {
                                     before = record {
                                       before = record
-                                          { before = record { before = c .before; attempt = c .attempt }; f = record { given = g } };
+                                          { before = record { before = c .before; attempt = c .attempt }; words = record { given = g } };
                                       slice-known3 = record
                                           { given = g' };
                                     };
-                                    t = record { given = g'' };
+                                    terms = record { given = g'' };
                                   };
                                   slice-known4 = record { given = g'3 };
                                 };
-                            w = record { given = g'4 };
+                            work = record
+                                { given = g'4 };
                           };
-                          match
-                              = record { keys1 = k };
+                          match = record { keys1 = k };
                         };
                         j = record { given = g'5 };
                       };
@@ -4429,698 +4432,226 @@ module _ (claims· : Claims) where
                   ),
                 ),
                 (
-                  λ k. (
-                    enum-known-s1 record {
-                      before = record {
-                        before = record {
+                  λ
+                      k. (
+                        enum-known-s1 record {
                           before = record {
                             before = record {
-                              before = record
-                                  { before = record { before = c .before; attempt = c .attempt }; f = record { given = g } };
-                              slice-known3 = record
-                                  { given = g' };
+                              before = record {
+                                before = record {
+                                  before = record
+                                      { before = record { before = c .before; attempt = c .attempt }; words = record { given = g } };
+                                  slice-known3 = record
+                                      { given = g' };
+                                };
+                                terms = record { given = g'' };
+                              };
+                              slice-known4 = record { given = g'3 };
                             };
-                            t = record { given = g'' };
+                            work = record
+                                { given = g'4 };
                           };
-                          slice-known4 = record { given = g'3 };
-                        };
-                        w = record { given = g'4 };
-                      };
-                      match
-                          = record { keys2 = k };
-                    },
-                    λ g'7. λ g'8. (
-                      μ·0 (Row.get 1 (T7 .locals) (m6 (c .before .before .before .before .before .before
-                          .before .before .before .before .before .before) (c .before .before .before .before .before .before .before .before .before
-                          .before .before .shared-slice-known .given)) .now) (Row.get 2 (T7 .locals) (m6 (c .before .before .before .before .before
-                          .before .before .before .before .before .before .before) (c .before .before .before .before .before .before .before .before
-                          .before .before .before .shared-slice-known .given)) .now) (Row.get 3 (T7 .locals) (m6 (c .before .before .before .before
-                          .before .before .before .before .before .before .before .before) (c .before .before .before .before .before .before .before
-                          .before .before .before .before .shared-slice-known .given)) .now) (Row.get 4 (T7 .locals) (m6 (c .before .before .before
-                          .before .before .before .before .before .before .before .before .before) (c .before .before .before .before .before .before
-                          .before .before .before .before .before .shared-slice-known .given)) .now) (Row.get 5 (T7 .locals) (m6 (c .before .before
-                          .before .before .before .before .before .before .before .before .before .before) (c .before .before .before .before .before
-                          .before .before .before .before .before .before .shared-slice-known .given))) (Row.get 7 (T7 .locals) (m6 (c .before .before
-                          .before .before .before .before .before .before .before .before .before .before) (c .before .before .before .before .before
-                          .before .before .before .before .before .before .shared-slice-known .given))) (Row.get 8 (T7 .locals) (m6 (c .before .before
-                          .before .before .before .before .before .before .before .before .before .before) (c .before .before .before .before .before
-                          .before .before .before .before .before .before .shared-slice-known .given))) (Row.get 9 (T7 .locals) (m6 (c .before .before
-                          .before .before .before .before .before .before .before .before .before .before) (c .before .before .before .before .before
-                          .before .before .before .before .before .before .shared-slice-known .given))) (Row.get 1 (T7 .locals) (m57 record {
-                            before =
-                                record {
-                                  before = record {
-                                    before = record {
-                                      before = record {
-                                        before = record {
-                                          before = record
-                                              { before = record { before = c .before; attempt = c .attempt }; f = record { given = g } };
-                                          slice-known3 = record
-                                              { given = g' };
-                                        };
-                                        t = record { given = g'' };
-                                      };
-                                      slice-known4 = record { given = g'3 };
-                                    };
-                                    w = record { given = g'4 };
-                                  };
-                                  match
-                                      = record { keys2 = k };
-                                };
-                            s1 = record { given = g'7 };
-                          } g'8) .now) (Row.get 2 (T7 .locals) (m57 record {
-                            before = record {
-                              before = record {
-                                before = record {
-                                  before = record {
-                                    before = record {
-                                      before = record
-                                          { before = record { before = c .before; attempt = c .attempt }; f = record { given = g } };
-                                      slice-known3 = record
-                                          { given = g' };
-                                    };
-                                    t = record { given = g'' };
-                                  };
-                                  slice-known4 = record { given = g'3 };
-                                };
-                                w = record { given = g'4 };
-                              };
-                              match
-                                  = record { keys2 = k };
-                            };
-                            s1 = record { given = g'7 };
-                          } g'8) .now) (Row.get 3 (T7 .locals) (m57 record {
-                            before = record {
-                              before = record {
-                                before = record {
-                                  before = record {
-                                    before = record {
-                                      before = record
-                                          { before = record { before = c .before; attempt = c .attempt }; f = record { given = g } };
-                                      slice-known3 = record
-                                          { given = g' };
-                                    };
-                                    t = record { given = g'' };
-                                  };
-                                  slice-known4 = record { given = g'3 };
-                                };
-                                w = record { given = g'4 };
-                              };
-                              match
-                                  = record { keys2 = k };
-                            };
-                            s1 = record { given = g'7 };
-                          } g'8) .now) (Row.get 8 (T7 .locals) (m57 record {
-                            before = record {
-                              before = record {
-                                before = record {
-                                  before = record {
-                                    before = record {
-                                      before = record
-                                          { before = record { before = c .before; attempt = c .attempt }; f = record { given = g } };
-                                      slice-known3 = record
-                                          { given = g' };
-                                    };
-                                    t = record { given = g'' };
-                                  };
-                                  slice-known4 = record { given = g'3 };
-                                };
-                                w = record { given = g'4 };
-                              };
-                              match
-                                  = record { keys2 = k };
-                            };
-                            s1 = record { given = g'7 };
-                          } g'8)) (Row.get 9 (T7 .locals) (m57 record {
-                            before = record {
-                              before
-                                  = record {
-                                    before = record {
-                                      before = record {
-                                        before = record {
-                                          before = record
-                                              { before = record { before = c .before; attempt = c .attempt }; f = record { given = g } };
-                                          slice-known3 = record
-                                              { given = g' };
-                                        };
-                                        t = record { given = g'' };
-                                      };
-                                      slice-known4 = record { given = g'3 };
-                                    };
-                                    w = record { given = g'4 };
-                                  };
-                              match
-                                  = record { keys2 = k };
-                            };
-                            s1 = record { given = g'7 };
-                          } g'8)),
-                      loop-less record {
-                        before = record {
-                          before = record {
-                            before
-                                = record {
-                                  before = record {
-                                    before = record {
-                                      before = record {
-                                        before = record
-                                            { before = record { before = c .before; attempt = c .attempt }; f = record { given = g } };
-                                        slice-known3 = record
-                                            { given = g' };
-                                      };
-                                      t = record { given = g'' };
-                                    };
-                                    slice-known4 = record { given = g'3 };
-                                  };
-                                  w = record { given = g'4 };
-                                };
-                            match
-                                = record { keys2 = k };
-                          };
-                          s1 = record { given = g'7 };
-                        };
-                        known-told2 = record { given = g'8 };
-                      },
-                      (
-                        (
-                          Row.get 1 (T7 .locals)
-                              (m57 record {
+                          match = record { keys2 = k };
+                        },
+                        λ g'7. λ g'8. (
+                          μ·0 (Row.get 1 (T7 .locals) (m6 (c .before .before .before
+                              .before .before .before .before .before .before .before .before .before) (c .before .before .before .before .before .before
+                              .before .before .before .before .before .shared-slice-known .given)) .now) (Row.get 2 (T7 .locals) (m6 (c .before .before
+                              .before .before .before .before .before .before .before .before .before .before) (c .before .before .before .before .before
+                              .before .before .before .before .before .before .shared-slice-known .given)) .now) (Row.get 3 (T7 .locals) (m6 (c .before
+                              .before .before .before .before .before .before .before .before .before .before .before) (c .before .before .before .before
+                              .before .before .before .before .before .before .before .shared-slice-known .given)) .now) (Row.get 4 (T7 .locals) (m6 (c
+                              .before .before .before .before .before .before .before .before .before .before .before .before) (c .before .before .before
+                              .before .before .before .before .before .before .before .before .shared-slice-known .given)) .now) (Row.get 5 (T7 .locals)
+                              (m6 (c .before .before .before .before .before .before .before .before .before .before .before .before) (c .before .before
+                              .before .before .before .before .before .before .before .before .before .shared-slice-known .given))) (Row.get 7 (T7
+                              .locals) (m6 (c .before .before .before .before .before .before .before .before .before .before .before .before) (c .before
+                              .before .before .before .before .before .before .before .before .before .before .shared-slice-known .given))) (Row.get 8 (T7
+                              .locals) (m6 (c .before .before .before .before .before .before .before .before .before .before .before .before) (c .before
+                              .before .before .before .before .before .before .before .before .before .before .shared-slice-known .given))) (Row.get 9 (T7
+                              .locals) (m6 (c .before .before .before .before .before .before .before .before .before .before .before .before) (c .before
+                              .before .before .before .before .before .before .before .before .before .before .shared-slice-known .given))) (Row.get 1 (T7
+                              .locals) (m57 record {
                                 before = record {
                                   before = record {
                                     before = record {
                                       before = record {
                                         before = record {
-                                          before = record
-                                              { before = record { before = c .before; attempt = c .attempt }; f = record { given = g } };
+                                          before =
+                                              record { before = record { before = c .before; attempt = c .attempt }; words = record { given = g } };
                                           slice-known3 = record
                                               { given = g' };
                                         };
-                                        t = record { given = g'' };
+                                        terms = record { given = g'' };
                                       };
                                       slice-known4 = record { given = g'3 };
                                     };
-                                    w = record { given = g'4 };
+                                    work = record
+                                        { given = g'4 };
                                   };
-                                  match
-                                      = record { keys2 = k };
+                                  match = record { keys2 = k };
                                 };
                                 s1 = record { given = g'7 };
-                              } g'8) .now,
-                          Row.get 2 (T7 .locals) (m57 record {
-                            before = record {
-                              before = record {
-                                before = record {
-                                  before = record {
-                                    before = record {
-                                      before = record
-                                          { before = record { before = c .before; attempt = c .attempt }; f = record { given = g } };
-                                      slice-known3 = record
-                                          { given = g' };
-                                    };
-                                    t = record { given = g'' };
-                                  };
-                                  slice-known4 = record { given = g'3 };
-                                };
-                                w = record { given = g'4 };
-                              };
-                              match
-                                  = record { keys2 = k };
-                            };
-                            s1 = record { given = g'7 };
-                          } g'8) .now,
-                          Row.get 3 (T7 .locals) (m57 record {
-                            before = record {
-                              before = record {
-                                before = record {
-                                  before = record {
-                                    before = record {
-                                      before = record
-                                          { before = record { before = c .before; attempt = c .attempt }; f = record { given = g } };
-                                      slice-known3 = record
-                                          { given = g' };
-                                    };
-                                    t = record { given = g'' };
-                                  };
-                                  slice-known4 = record { given = g'3 };
-                                };
-                                w = record { given = g'4 };
-                              };
-                              match
-                                  = record { keys2 = k };
-                            };
-                            s1 = record { given = g'7 };
-                          } g'8) .now,
-                          Row.get 8 (T7 .locals) (m57 record {
-                            before = record {
-                              before = record {
-                                before = record {
-                                  before = record {
-                                    before = record {
-                                      before = record
-                                          { before = record { before = c .before; attempt = c .attempt }; f = record { given = g } };
-                                      slice-known3 = record
-                                          { given = g' };
-                                    };
-                                    t = record { given = g'' };
-                                  };
-                                  slice-known4 = record { given = g'3 };
-                                };
-                                w = record { given = g'4 };
-                              };
-                              match
-                                  = record { keys2 = k };
-                            };
-                            s1 = record { given = g'7 };
-                          } g'8),
-                          Row.get 9 (T7 .locals) (m57 record {
-                            before = record {
-                              before
-                                  = record {
-                                    before = record {
-                                      before = record {
-                                        before = record {
-                                          before = record
-                                              { before = record { before = c .before; attempt = c .attempt }; f = record { given = g } };
-                                          slice-known3 = record
-                                              { given = g' };
-                                        };
-                                        t = record { given = g'' };
-                                      };
-                                      slice-known4 = record { given = g'3 };
-                                    };
-                                    w = record { given = g'4 };
-                                  };
-                              match
-                                  = record { keys2 = k };
-                            };
-                            s1 = record { given = g'7 };
-                          } g'8),
-                        ),
-                        Path'.refl {a = m57 record {
-                          before = record {
-                            before =
-                                record {
-                                  before = record {
-                                    before = record {
-                                      before = record {
-                                        before = record
-                                            { before = record { before = c .before; attempt = c .attempt }; f = record { given = g } };
-                                        slice-known3 = record
-                                            { given = g' };
-                                      };
-                                      t = record { given = g'' };
-                                    };
-                                    slice-known4 = record { given = g'3 };
-                                  };
-                                  w = record { given = g'4 };
-                                };
-                            match
-                                = record { keys2 = k };
-                          };
-                          s1 = record { given = g'7 };
-                        } g'8},
-                        loop-again record {
-                          before = record {
-                            before = record {
-                              before = record {
-                                before = record {
-                                  before = record {
-                                    before = record {
-                                      before = record
-                                          { before = record { before = c .before; attempt = c .attempt }; f = record { given = g } };
-                                      slice-known3 = record
-                                          { given = g' };
-                                    };
-                                    t = record { given = g'' };
-                                  };
-                                  slice-known4 = record { given = g'3 };
-                                };
-                                w = record { given = g'4 };
-                              };
-                              match
-                                  = record { keys2 = k };
-                            };
-                            s1 = record { given = g'7 };
-                          };
-                          known-told2 = record { given = g'8 };
-                        },
-                        Path'.refl {a = μ·0
-                            (Row.get 1 (T7 .locals) (m6 (c .before .before .before .before .before .before .before .before .before .before .before
-                            .before) (c .before .before .before .before .before .before .before .before .before .before .before .shared-slice-known
-                            .given)) .now) (Row.get 2 (T7 .locals) (m6 (c .before .before .before .before .before .before .before .before .before
-                            .before .before .before) (c .before .before .before .before .before .before .before .before .before .before .before
-                            .shared-slice-known .given)) .now) (Row.get 3 (T7 .locals) (m6 (c .before .before .before .before .before .before .before
-                            .before .before .before .before .before) (c .before .before .before .before .before .before .before .before .before .before
-                            .before .shared-slice-known .given)) .now) (Row.get 4 (T7 .locals) (m6 (c .before .before .before .before .before .before
-                            .before .before .before .before .before .before) (c .before .before .before .before .before .before .before .before .before
-                            .before .before .shared-slice-known .given)) .now) (Row.get 5 (T7 .locals) (m6 (c .before .before .before .before .before
-                            .before .before .before .before .before .before .before) (c .before .before .before .before .before .before .before .before
-                            .before .before .before .shared-slice-known .given))) (Row.get 7 (T7 .locals) (m6 (c .before .before .before .before .before
-                            .before .before .before .before .before .before .before) (c .before .before .before .before .before .before .before .before
-                            .before .before .before .shared-slice-known .given))) (Row.get 8 (T7 .locals) (m6 (c .before .before .before .before .before
-                            .before .before .before .before .before .before .before) (c .before .before .before .before .before .before .before .before
-                            .before .before .before .shared-slice-known .given))) (Row.get 9 (T7 .locals) (m6 (c .before .before .before .before .before
-                            .before .before .before .before .before .before .before) (c .before .before .before .before .before .before .before .before
-                            .before .before .before .shared-slice-known .given))) (Row.get 1 (T7 .locals) (m57 record {
-                              before = record {
-                                before =
-                                    record {
-                                      before = record {
-                                        before = record {
-                                          before = record {
-                                            before = record
-                                                { before = record { before = c .before; attempt = c .attempt }; f = record { given = g } };
-                                            slice-known3 = record
-                                                { given = g' };
-                                          };
-                                          t = record { given = g'' };
-                                        };
-                                        slice-known4 = record { given = g'3 };
-                                      };
-                                      w = record { given = g'4 };
-                                    };
-                                match
-                                    = record { keys2 = k };
-                              };
-                              s1 = record { given = g'7 };
-                            } g'8) .now) (Row.get 2 (T7 .locals) (m57 record {
-                              before = record {
-                                before = record {
-                                  before = record {
-                                    before = record {
-                                      before = record {
-                                        before = record
-                                            { before = record { before = c .before; attempt = c .attempt }; f = record { given = g } };
-                                        slice-known3 = record
-                                            { given = g' };
-                                      };
-                                      t = record { given = g'' };
-                                    };
-                                    slice-known4 = record { given = g'3 };
-                                  };
-                                  w = record { given = g'4 };
-                                };
-                                match
-                                    = record { keys2 = k };
-                              };
-                              s1 = record { given = g'7 };
-                            } g'8) .now) (Row.get 3 (T7 .locals) (m57 record {
-                              before = record {
-                                before = record {
-                                  before = record {
-                                    before = record {
-                                      before = record {
-                                        before = record
-                                            { before = record { before = c .before; attempt = c .attempt }; f = record { given = g } };
-                                        slice-known3 = record
-                                            { given = g' };
-                                      };
-                                      t = record { given = g'' };
-                                    };
-                                    slice-known4 = record { given = g'3 };
-                                  };
-                                  w = record { given = g'4 };
-                                };
-                                match
-                                    = record { keys2 = k };
-                              };
-                              s1 = record { given = g'7 };
-                            } g'8) .now) (Row.get 8 (T7 .locals) (m57 record {
-                              before = record {
-                                before = record {
-                                  before = record {
-                                    before = record {
-                                      before = record {
-                                        before = record
-                                            { before = record { before = c .before; attempt = c .attempt }; f = record { given = g } };
-                                        slice-known3 = record
-                                            { given = g' };
-                                      };
-                                      t = record { given = g'' };
-                                    };
-                                    slice-known4 = record { given = g'3 };
-                                  };
-                                  w = record { given = g'4 };
-                                };
-                                match
-                                    = record { keys2 = k };
-                              };
-                              s1 = record { given = g'7 };
-                            } g'8)) (Row.get 9 (T7 .locals) (m57 record {
-                              before = record {
-                                before
-                                    = record {
-                                      before = record {
-                                        before = record {
-                                          before = record {
-                                            before = record
-                                                { before = record { before = c .before; attempt = c .attempt }; f = record { given = g } };
-                                            slice-known3 = record
-                                                { given = g' };
-                                          };
-                                          t = record { given = g'' };
-                                        };
-                                        slice-known4 = record { given = g'3 };
-                                      };
-                                      w = record { given = g'4 };
-                                    };
-                                match
-                                    = record { keys2 = k };
-                              };
-                              s1 = record { given = g'7 };
-                            } g'8))},
-                      ),
-                    ),
-                  ),
-                  (
-                    λ k. (
-                      enum-known-n record {
-                        before = record {
-                          before =
+                              } g'8) .now) (Row.get 2 (T7 .locals) (m57
                               record {
                                 before = record {
                                   before = record {
-                                    before = record
-                                        { before = record { before = c .before; attempt = c .attempt }; f = record { given = g } };
-                                    slice-known3 = record
-                                        { given = g' };
-                                  };
-                                  t = record { given = g'' };
-                                };
-                                slice-known4 = record { given = g'3 };
-                              };
-                          w = record { given = g'4 };
-                        };
-                        match
-                            = record { keys3 = k };
-                      },
-                      λ g'9. λ g'10. (
-                        (
-                          MutSlice.fix-len (Row.get 1 (T86 .locals) (m69 record {
-                            before = record {
-                              before
-                                  = record {
                                     before = record {
                                       before = record {
                                         before = record {
                                           before = record
-                                              { before = record { before = c .before; attempt = c .attempt }; f = record { given = g } };
+                                              { before = record { before = c .before; attempt = c .attempt }; words = record { given = g } };
                                           slice-known3 = record
                                               { given = g' };
                                         };
-                                        t = record { given = g'' };
+                                        terms = record { given = g'' };
                                       };
                                       slice-known4 = record { given = g'3 };
                                     };
-                                    w = record { given = g'4 };
+                                    work = record
+                                        { given = g'4 };
                                   };
-                              match
-                                  = record { keys3 = k };
-                            };
-                            n = record { given = g'9 };
-                          } g'10) .ptr) (Row.get 1 (T86 .locals) (m69 record {
-                            before = record {
-                              before = record {
-                                before = record {
-                                  before = record {
-                                    before = record {
-                                      before = record
-                                          { before = record { before = c .before; attempt = c .attempt }; f = record { given = g } };
-                                      slice-known3 = record
-                                          { given = g' };
-                                    };
-                                    t = record { given = g'' };
-                                  };
-                                  slice-known4 = record { given = g'3 };
+                                  match = record { keys2 = k };
                                 };
-                                w = record { given = g'4 };
-                              };
-                              match
-                                  = record { keys3 = k };
-                            };
-                            n = record { given = g'9 };
-                          } g'10) .name) (Row.get 1 (T86 .locals) (m69 record {
-                            before = record {
-                              before = record {
-                                before = record {
-                                  before = record {
-                                    before = record {
-                                      before = record
-                                          { before = record { before = c .before; attempt = c .attempt }; f = record { given = g } };
-                                      slice-known3 = record
-                                          { given = g' };
-                                    };
-                                    t = record { given = g'' };
-                                  };
-                                  slice-known4 = record { given = g'3 };
-                                };
-                                w = record { given = g'4 };
-                              };
-                              match
-                                  = record { keys3 = k };
-                            };
-                            n = record { given = g'9 };
-                          } g'10) .now) (dens (c .before .before .before .before .before .before
-                              .before .before .before .before .before .before .before .before .κs) (c .before .before .before .before .before .before
-                              .before .before .before .before .before .before .before .before .args) .0 .now) (same-length-4 record {
+                                s1 = record { given = g'7 };
+                              } g'8) .now) (Row.get 3 (T7 .locals) (m57
+                              record {
                                 before = record {
                                   before = record {
                                     before = record {
                                       before = record {
                                         before = record {
-                                          before = record {
-                                            before = record
-                                                { before = record { before = c .before; attempt = c .attempt }; f = record { given = g } };
-                                            slice-known3 = record
-                                                { given = g' };
-                                          };
-                                          t = record { given = g'' };
+                                          before = record
+                                              { before = record { before = c .before; attempt = c .attempt }; words = record { given = g } };
+                                          slice-known3 = record
+                                              { given = g' };
                                         };
-                                        slice-known4 = record { given = g'3 };
+                                        terms = record { given = g'' };
                                       };
-                                      w = record { given = g'4 };
+                                      slice-known4 = record { given = g'3 };
                                     };
-                                    match
-                                        = record { keys3 = k };
+                                    work = record
+                                        { given = g'4 };
                                   };
-                                  n = record { given = g'9 };
+                                  match = record { keys2 = k };
                                 };
-                                known-told3 = record { given = g'10 };
-                              }),
+                                s1 = record { given = g'7 };
+                              } g'8) .now) (Row.get 8 (T7 .locals) (m57
+                              record {
+                                before = record {
+                                  before = record {
+                                    before = record {
+                                      before = record {
+                                        before = record {
+                                          before = record
+                                              { before = record { before = c .before; attempt = c .attempt }; words = record { given = g } };
+                                          slice-known3 = record
+                                              { given = g' };
+                                        };
+                                        terms = record { given = g'' };
+                                      };
+                                      slice-known4 = record { given = g'3 };
+                                    };
+                                    work = record
+                                        { given = g'4 };
+                                  };
+                                  match = record { keys2 = k };
+                                };
+                                s1 = record { given = g'7 };
+                              } g'8)) (Row.get 9 (T7 .locals) (m57 record {
+                                before = record {
+                                  before = record {
+                                    before = record {
+                                      before = record {
+                                        before = record {
+                                          before = record
+                                              { before = record { before = c .before; attempt = c .attempt }; words = record { given = g } };
+                                          slice-known3 = record
+                                              { given = g' };
+                                        };
+                                        terms = record { given = g'' };
+                                      };
+                                      slice-known4 = record { given = g'3 };
+                                    };
+                                    work = record
+                                        { given = g'4 };
+                                  };
+                                  match = record { keys2 = k };
+                                };
+                                s1 = record { given = g'7 };
+                              } g'8)),
+                          loop-less record {
+                            before = record {
+                              before = record {
+                                before = record {
+                                  before = record {
+                                    before = record {
+                                      before = record {
+                                        before = record
+                                            { before = record { before = c .before; attempt = c .attempt }; words = record { given = g } };
+                                        slice-known3 = record
+                                            { given = g' };
+                                      };
+                                      terms = record { given = g'' };
+                                    };
+                                    slice-known4 = record { given = g'3 };
+                                  };
+                                  work = record
+                                      { given = g'4 };
+                                };
+                                match = record { keys2 = k };
+                              };
+                              s1 = record { given = g'7 };
+                            };
+                            known-told2 = record { given = g'8 };
+                          },
                           (
-                            MutSlice.fix-len (Row.get
-                                2 (T86 .locals) (m69 record {
+                            (
+                              Row.get 1 (T7 .locals) (m57 record {
+                                before = record {
                                   before = record {
                                     before = record {
                                       before = record {
-                                        before = record {
-                                          before = record {
-                                            before = record { before = record { before = c .before; attempt = c .attempt }; f = record { given = g } };
-                                            slice-known3 =
-                                                record { given = g' };
-                                          };
-                                          t = record { given = g'' };
-                                        };
-                                        slice-known4 = record { given = g'3 };
+                                        before =
+                                            record {
+                                              before = record { before = record { before = c .before; attempt = c .attempt }; words = record { given = g } };
+                                              slice-known3 = record { given = g' };
+                                            };
+                                        terms = record { given = g'' };
                                       };
-                                      w = record
-                                          { given = g'4 };
+                                      slice-known4 = record { given = g'3 };
                                     };
-                                    match = record { keys3 = k };
+                                    work =
+                                        record { given = g'4 };
                                   };
-                                  n = record { given = g'9 };
-                                } g'10) .ptr) (Row.get 2 (T86 .locals) (m69
-                                record {
-                                  before = record {
-                                    before = record {
-                                      before = record {
-                                        before = record {
-                                          before = record {
-                                            before = record
-                                                { before = record { before = c .before; attempt = c .attempt }; f = record { given = g } };
-                                            slice-known3 = record
-                                                { given = g' };
-                                          };
-                                          t = record { given = g'' };
-                                        };
-                                        slice-known4 = record { given = g'3 };
-                                      };
-                                      w = record { given = g'4 };
-                                    };
-                                    match
-                                        = record { keys3 = k };
-                                  };
-                                  n = record { given = g'9 };
-                                } g'10) .name) (Row.get 2 (T86 .locals) (m69 record {
-                                  before = record {
-                                    before = record {
-                                      before = record {
-                                        before = record {
-                                          before = record {
-                                            before = record
-                                                { before = record { before = c .before; attempt = c .attempt }; f = record { given = g } };
-                                            slice-known3 = record
-                                                { given = g' };
-                                          };
-                                          t = record { given = g'' };
-                                        };
-                                        slice-known4 = record { given = g'3 };
-                                      };
-                                      w = record { given = g'4 };
-                                    };
-                                    match
-                                        = record { keys3 = k };
-                                  };
-                                  n = record { given = g'9 };
-                                } g'10) .now) (dens (c .before .before .before .before .before .before
-                                .before .before .before .before .before .before .before .before .κs) (c .before .before .before .before .before .before
-                                .before .before .before .before .before .before .before .before .args) .1 .0 .now) (same-length-5 record {
-                                  before = record {
+                                  match = record { keys2 = k };
+                                };
+                                s1 = record { given = g'7 };
+                              } g'8) .now,
+                              Row.get 2 (T7 .locals)
+                                  (m57 record {
                                     before = record {
                                       before = record {
                                         before = record {
                                           before = record {
                                             before = record {
                                               before = record
-                                                  { before = record { before = c .before; attempt = c .attempt }; f = record { given = g } };
+                                                  { before = record { before = c .before; attempt = c .attempt }; words = record { given = g } };
                                               slice-known3 = record
                                                   { given = g' };
                                             };
-                                            t = record { given = g'' };
+                                            terms = record { given = g'' };
                                           };
                                           slice-known4 = record { given = g'3 };
                                         };
-                                        w = record { given = g'4 };
-                                      };
-                                      match
-                                          = record { keys3 = k };
-                                    };
-                                    n = record { given = g'9 };
-                                  };
-                                  known-told3 = record { given = g'10 };
-                                }),
-                            (
-                              MutSlice.fix-len (Row.get
-                                  3 (T86 .locals) (m69 record {
-                                    before = record {
-                                      before = record {
-                                        before = record {
-                                          before = record {
-                                            before = record {
-                                              before = record { before = record { before = c .before; attempt = c .attempt }; f = record { given = g } };
-                                              slice-known3 =
-                                                  record { given = g' };
-                                            };
-                                            t = record { given = g'' };
-                                          };
-                                          slice-known4 = record { given = g'3 };
-                                        };
-                                        w = record
+                                        work = record
                                             { given = g'4 };
                                       };
-                                      match = record { keys3 = k };
+                                      match = record { keys2 = k };
                                     };
-                                    n = record { given = g'9 };
-                                  } g'10) .ptr) (Row.get 3 (T86 .locals) (m69
+                                    s1 = record { given = g'7 };
+                                  } g'8) .now,
+                              Row.get 3 (T7 .locals) (m57
                                   record {
                                     before = record {
                                       before = record {
@@ -5128,67 +4659,548 @@ module _ (claims· : Claims) where
                                           before = record {
                                             before = record {
                                               before = record
-                                                  { before = record { before = c .before; attempt = c .attempt }; f = record { given = g } };
+                                                  { before = record { before = c .before; attempt = c .attempt }; words = record { given = g } };
                                               slice-known3 = record
                                                   { given = g' };
                                             };
-                                            t = record { given = g'' };
+                                            terms = record { given = g'' };
                                           };
                                           slice-known4 = record { given = g'3 };
                                         };
-                                        w = record { given = g'4 };
+                                        work = record
+                                            { given = g'4 };
                                       };
-                                      match
-                                          = record { keys3 = k };
+                                      match = record { keys2 = k };
                                     };
-                                    n = record { given = g'9 };
-                                  } g'10) .name) (Row.get 3 (T86 .locals) (m69 record {
+                                    s1 = record { given = g'7 };
+                                  } g'8) .now,
+                              Row.get 8 (T7 .locals) (m57
+                                  record {
                                     before = record {
                                       before = record {
                                         before = record {
                                           before = record {
                                             before = record {
                                               before = record
-                                                  { before = record { before = c .before; attempt = c .attempt }; f = record { given = g } };
+                                                  { before = record { before = c .before; attempt = c .attempt }; words = record { given = g } };
                                               slice-known3 = record
                                                   { given = g' };
                                             };
-                                            t = record { given = g'' };
+                                            terms = record { given = g'' };
                                           };
                                           slice-known4 = record { given = g'3 };
                                         };
-                                        w = record { given = g'4 };
+                                        work = record
+                                            { given = g'4 };
                                       };
-                                      match
-                                          = record { keys3 = k };
+                                      match = record { keys2 = k };
                                     };
-                                    n = record { given = g'9 };
-                                  } g'10) .now) (dens (c .before .before .before .before .before .before
-                                  .before .before .before .before .before .before .before .before .κs) (c .before .before .before .before .before .before
-                                  .before .before .before .before .before .before .before .before .args) .1 .1 .0 .now) (same-length-6 record {
-                                    before =
-                                        record {
+                                    s1 = record { given = g'7 };
+                                  } g'8),
+                              Row.get 9 (T7 .locals) (m57 record {
+                                before = record {
+                                  before = record {
+                                    before = record {
+                                      before = record {
+                                        before = record {
+                                          before = record
+                                              { before = record { before = c .before; attempt = c .attempt }; words = record { given = g } };
+                                          slice-known3 = record
+                                              { given = g' };
+                                        };
+                                        terms = record { given = g'' };
+                                      };
+                                      slice-known4 = record { given = g'3 };
+                                    };
+                                    work = record
+                                        { given = g'4 };
+                                  };
+                                  match = record { keys2 = k };
+                                };
+                                s1 = record { given = g'7 };
+                              } g'8),
+                            ),
+                            Path'.refl {a = m57 record {
+                              before
+                                  = record {
+                                    before = record {
+                                      before = record {
+                                        before = record {
+                                          before = record {
+                                            before = record
+                                                { before = record { before = c .before; attempt = c .attempt }; words = record { given = g } };
+                                            slice-known3 = record
+                                                { given = g' };
+                                          };
+                                          terms = record { given = g'' };
+                                        };
+                                        slice-known4 = record { given = g'3 };
+                                      };
+                                      work = record
+                                          { given = g'4 };
+                                    };
+                                    match = record { keys2 = k };
+                                  };
+                              s1 = record { given = g'7 };
+                            } g'8},
+                            loop-again record {
+                              before = record {
+                                before = record {
+                                  before = record {
+                                    before = record {
+                                      before = record {
+                                        before = record {
+                                          before = record
+                                              { before = record { before = c .before; attempt = c .attempt }; words = record { given = g } };
+                                          slice-known3 = record
+                                              { given = g' };
+                                        };
+                                        terms = record { given = g'' };
+                                      };
+                                      slice-known4 = record { given = g'3 };
+                                    };
+                                    work = record
+                                        { given = g'4 };
+                                  };
+                                  match = record { keys2 = k };
+                                };
+                                s1 = record { given = g'7 };
+                              };
+                              known-told2 = record { given = g'8 };
+                            },
+                            Path'.refl {a = μ·0 (Row.get 1 (T7 .locals) (m6 (c .before .before .before .before .before .before .before .before .before
+                                .before .before .before) (c .before .before .before .before .before .before .before .before .before .before .before
+                                .shared-slice-known .given)) .now) (Row.get 2 (T7 .locals) (m6 (c .before .before .before .before .before .before .before
+                                .before .before .before .before .before) (c .before .before .before .before .before .before .before .before .before .before
+                                .before .shared-slice-known .given)) .now) (Row.get 3 (T7 .locals) (m6 (c .before .before .before .before .before .before
+                                .before .before .before .before .before .before) (c .before .before .before .before .before .before .before .before .before
+                                .before .before .shared-slice-known .given)) .now) (Row.get 4 (T7 .locals) (m6 (c .before .before .before .before .before
+                                .before .before .before .before .before .before .before) (c .before .before .before .before .before .before .before .before
+                                .before .before .before .shared-slice-known .given)) .now) (Row.get 5 (T7 .locals) (m6 (c .before .before .before .before
+                                .before .before .before .before .before .before .before .before) (c .before .before .before .before .before .before .before
+                                .before .before .before .before .shared-slice-known .given))) (Row.get 7 (T7 .locals) (m6 (c .before .before .before .before
+                                .before .before .before .before .before .before .before .before) (c .before .before .before .before .before .before .before
+                                .before .before .before .before .shared-slice-known .given))) (Row.get 8 (T7 .locals) (m6 (c .before .before .before .before
+                                .before .before .before .before .before .before .before .before) (c .before .before .before .before .before .before .before
+                                .before .before .before .before .shared-slice-known .given))) (Row.get 9 (T7 .locals) (m6 (c .before .before .before .before
+                                .before .before .before .before .before .before .before .before) (c .before .before .before .before .before .before .before
+                                .before .before .before .before .shared-slice-known .given))) (Row.get 1 (T7 .locals) (m57 record {
+                                  before = record {
+                                    before
+                                        = record {
                                           before = record {
                                             before = record {
                                               before = record {
-                                                before = record {
-                                                  before = record {
-                                                    before = record
-                                                        { before = record { before = c .before; attempt = c .attempt }; f = record { given = g } };
-                                                    slice-known3 = record
-                                                        { given = g' };
-                                                  };
-                                                  t = record { given = g'' };
-                                                };
-                                                slice-known4 = record { given = g'3 };
+                                                before = record
+                                                    { before = record { before = c .before; attempt = c .attempt }; words = record { given = g } };
+                                                slice-known3 = record
+                                                    { given = g' };
                                               };
-                                              w = record { given = g'4 };
+                                              terms = record { given = g'' };
                                             };
-                                            match
-                                                = record { keys3 = k };
+                                            slice-known4 = record { given = g'3 };
                                           };
-                                          n = record { given = g'9 };
+                                          work = record
+                                              { given = g'4 };
                                         };
+                                    match = record { keys2 = k };
+                                  };
+                                  s1 = record { given = g'7 };
+                                } g'8) .now) (Row.get 2 (T7 .locals) (m57
+                                record {
+                                  before = record {
+                                    before = record {
+                                      before = record {
+                                        before = record {
+                                          before = record {
+                                            before = record
+                                                { before = record { before = c .before; attempt = c .attempt }; words = record { given = g } };
+                                            slice-known3 = record
+                                                { given = g' };
+                                          };
+                                          terms = record { given = g'' };
+                                        };
+                                        slice-known4 = record { given = g'3 };
+                                      };
+                                      work = record
+                                          { given = g'4 };
+                                    };
+                                    match = record { keys2 = k };
+                                  };
+                                  s1 = record { given = g'7 };
+                                } g'8) .now) (Row.get 3 (T7 .locals) (m57
+                                record {
+                                  before = record {
+                                    before = record {
+                                      before = record {
+                                        before = record {
+                                          before = record {
+                                            before = record
+                                                { before = record { before = c .before; attempt = c .attempt }; words = record { given = g } };
+                                            slice-known3 = record
+                                                { given = g' };
+                                          };
+                                          terms = record { given = g'' };
+                                        };
+                                        slice-known4 = record { given = g'3 };
+                                      };
+                                      work = record
+                                          { given = g'4 };
+                                    };
+                                    match = record { keys2 = k };
+                                  };
+                                  s1 = record { given = g'7 };
+                                } g'8) .now) (Row.get 8 (T7 .locals) (m57
+                                record {
+                                  before = record {
+                                    before = record {
+                                      before = record {
+                                        before = record {
+                                          before = record {
+                                            before = record
+                                                { before = record { before = c .before; attempt = c .attempt }; words = record { given = g } };
+                                            slice-known3 = record
+                                                { given = g' };
+                                          };
+                                          terms = record { given = g'' };
+                                        };
+                                        slice-known4 = record { given = g'3 };
+                                      };
+                                      work = record
+                                          { given = g'4 };
+                                    };
+                                    match = record { keys2 = k };
+                                  };
+                                  s1 = record { given = g'7 };
+                                } g'8)) (Row.get 9 (T7 .locals) (m57 record {
+                                  before = record {
+                                    before = record {
+                                      before = record {
+                                        before = record {
+                                          before = record {
+                                            before = record
+                                                { before = record { before = c .before; attempt = c .attempt }; words = record { given = g } };
+                                            slice-known3 = record
+                                                { given = g' };
+                                          };
+                                          terms = record { given = g'' };
+                                        };
+                                        slice-known4 = record { given = g'3 };
+                                      };
+                                      work = record
+                                          { given = g'4 };
+                                    };
+                                    match = record { keys2 = k };
+                                  };
+                                  s1 = record { given = g'7 };
+                                } g'8))},
+                          ),
+                        ),
+                      ),
+                  (
+                    λ k. (
+                      enum-known-n record {
+                        before = record {
+                          before = record {
+                            before = record {
+                              before = record {
+                                before = record
+                                    { before = record { before = c .before; attempt = c .attempt }; words = record { given = g } };
+                                slice-known3 = record
+                                    { given = g' };
+                              };
+                              terms = record { given = g'' };
+                            };
+                            slice-known4 = record { given = g'3 };
+                          };
+                          work = record
+                              { given = g'4 };
+                        };
+                        match = record { keys3 = k };
+                      },
+                      λ g'9. λ g'10. (
+                        (
+                          MutSlice.fix-len (Row.get 1 (T86 .locals) (m69 record {
+                            before = record {
+                              before = record {
+                                before = record {
+                                  before = record {
+                                    before = record {
+                                      before = record
+                                          { before = record { before = c .before; attempt = c .attempt }; words = record { given = g } };
+                                      slice-known3 = record
+                                          { given = g' };
+                                    };
+                                    terms = record { given = g'' };
+                                  };
+                                  slice-known4 = record { given = g'3 };
+                                };
+                                work = record
+                                    { given = g'4 };
+                              };
+                              match = record { keys3 = k };
+                            };
+                            n = record { given = g'9 };
+                          } g'10) .ptr) (Row.get 1 (T86 .locals) (m69
+                              record {
+                                before = record {
+                                  before = record {
+                                    before = record {
+                                      before = record {
+                                        before = record {
+                                          before = record
+                                              { before = record { before = c .before; attempt = c .attempt }; words = record { given = g } };
+                                          slice-known3 = record
+                                              { given = g' };
+                                        };
+                                        terms = record { given = g'' };
+                                      };
+                                      slice-known4 = record { given = g'3 };
+                                    };
+                                    work = record
+                                        { given = g'4 };
+                                  };
+                                  match = record { keys3 = k };
+                                };
+                                n = record { given = g'9 };
+                              } g'10) .name) (Row.get 1 (T86 .locals) (m69
+                              record {
+                                before = record {
+                                  before = record {
+                                    before = record {
+                                      before = record {
+                                        before = record {
+                                          before = record
+                                              { before = record { before = c .before; attempt = c .attempt }; words = record { given = g } };
+                                          slice-known3 = record
+                                              { given = g' };
+                                        };
+                                        terms = record { given = g'' };
+                                      };
+                                      slice-known4 = record { given = g'3 };
+                                    };
+                                    work = record
+                                        { given = g'4 };
+                                  };
+                                  match = record { keys3 = k };
+                                };
+                                n = record { given = g'9 };
+                              } g'10) .now) (dens (c .before .before .before
+                              .before .before .before .before .before .before .before .before .before .before .before .κs) (c .before .before .before
+                              .before .before .before .before .before .before .before .before .before .before .before .args) .0 .now) (same-length-4
+                              record {
+                                before = record {
+                                  before = record {
+                                    before = record {
+                                      before = record {
+                                        before = record {
+                                          before = record {
+                                            before
+                                                = record { before = record { before = c .before; attempt = c .attempt }; words = record { given = g } };
+                                            slice-known3 =
+                                                record { given = g' };
+                                          };
+                                          terms = record { given = g'' };
+                                        };
+                                        slice-known4 = record { given = g'3 };
+                                      };
+                                      work = record
+                                          { given = g'4 };
+                                    };
+                                    match = record { keys3 = k };
+                                  };
+                                  n = record { given = g'9 };
+                                };
+                                known-told3 = record { given = g'10 };
+                              }),
+                          (
+                            MutSlice.fix-len (Row.get 2 (T86 .locals) (m69 record {
+                              before = record {
+                                before = record {
+                                  before = record {
+                                    before =
+                                        record {
+                                          before = record {
+                                            before = record
+                                                { before = record { before = c .before; attempt = c .attempt }; words = record { given = g } };
+                                            slice-known3 = record
+                                                { given = g' };
+                                          };
+                                          terms = record { given = g'' };
+                                        };
+                                    slice-known4 = record { given = g'3 };
+                                  };
+                                  work = record
+                                      { given = g'4 };
+                                };
+                                match = record { keys3 = k };
+                              };
+                              n = record { given = g'9 };
+                            } g'10) .ptr) (Row.get 2 (T86 .locals) (m69
+                                record {
+                                  before = record {
+                                    before = record {
+                                      before = record {
+                                        before = record {
+                                          before = record {
+                                            before = record
+                                                { before = record { before = c .before; attempt = c .attempt }; words = record { given = g } };
+                                            slice-known3 = record
+                                                { given = g' };
+                                          };
+                                          terms = record { given = g'' };
+                                        };
+                                        slice-known4 = record { given = g'3 };
+                                      };
+                                      work = record
+                                          { given = g'4 };
+                                    };
+                                    match = record { keys3 = k };
+                                  };
+                                  n = record { given = g'9 };
+                                } g'10) .name) (Row.get 2 (T86 .locals) (m69
+                                record {
+                                  before = record {
+                                    before = record {
+                                      before = record {
+                                        before = record {
+                                          before = record {
+                                            before = record
+                                                { before = record { before = c .before; attempt = c .attempt }; words = record { given = g } };
+                                            slice-known3 = record
+                                                { given = g' };
+                                          };
+                                          terms = record { given = g'' };
+                                        };
+                                        slice-known4 = record { given = g'3 };
+                                      };
+                                      work = record
+                                          { given = g'4 };
+                                    };
+                                    match = record { keys3 = k };
+                                  };
+                                  n = record { given = g'9 };
+                                } g'10) .now) (dens (c .before .before .before
+                                .before .before .before .before .before .before .before .before .before .before .before .κs) (c .before .before .before
+                                .before .before .before .before .before .before .before .before .before .before .before .args) .1 .0 .now) (same-length-5
+                                record {
+                                  before = record {
+                                    before = record {
+                                      before = record {
+                                        before = record {
+                                          before = record {
+                                            before = record {
+                                              before
+                                                  = record { before = record { before = c .before; attempt = c .attempt }; words = record { given = g } };
+                                              slice-known3 =
+                                                  record { given = g' };
+                                            };
+                                            terms = record { given = g'' };
+                                          };
+                                          slice-known4 = record { given = g'3 };
+                                        };
+                                        work = record
+                                            { given = g'4 };
+                                      };
+                                      match = record { keys3 = k };
+                                    };
+                                    n = record { given = g'9 };
+                                  };
+                                  known-told3 = record { given = g'10 };
+                                }),
+                            (
+                              MutSlice.fix-len (Row.get 3 (T86 .locals) (m69 record {
+                                before = record {
+                                  before = record {
+                                    before = record {
+                                      before =
+                                          record {
+                                            before = record {
+                                              before = record
+                                                  { before = record { before = c .before; attempt = c .attempt }; words = record { given = g } };
+                                              slice-known3 = record
+                                                  { given = g' };
+                                            };
+                                            terms = record { given = g'' };
+                                          };
+                                      slice-known4 = record { given = g'3 };
+                                    };
+                                    work = record
+                                        { given = g'4 };
+                                  };
+                                  match = record { keys3 = k };
+                                };
+                                n = record { given = g'9 };
+                              } g'10) .ptr) (Row.get 3 (T86 .locals) (m69
+                                  record {
+                                    before = record {
+                                      before = record {
+                                        before = record {
+                                          before = record {
+                                            before = record {
+                                              before = record
+                                                  { before = record { before = c .before; attempt = c .attempt }; words = record { given = g } };
+                                              slice-known3 = record
+                                                  { given = g' };
+                                            };
+                                            terms = record { given = g'' };
+                                          };
+                                          slice-known4 = record { given = g'3 };
+                                        };
+                                        work = record
+                                            { given = g'4 };
+                                      };
+                                      match = record { keys3 = k };
+                                    };
+                                    n = record { given = g'9 };
+                                  } g'10) .name) (Row.get 3 (T86 .locals) (m69
+                                  record {
+                                    before = record {
+                                      before = record {
+                                        before = record {
+                                          before = record {
+                                            before = record {
+                                              before = record
+                                                  { before = record { before = c .before; attempt = c .attempt }; words = record { given = g } };
+                                              slice-known3 = record
+                                                  { given = g' };
+                                            };
+                                            terms = record { given = g'' };
+                                          };
+                                          slice-known4 = record { given = g'3 };
+                                        };
+                                        work = record
+                                            { given = g'4 };
+                                      };
+                                      match = record { keys3 = k };
+                                    };
+                                    n = record { given = g'9 };
+                                  } g'10) .now) (dens (c .before .before .before
+                                  .before .before .before .before .before .before .before .before .before .before .before .κs) (c .before .before .before
+                                  .before .before .before .before .before .before .before .before .before .before .before .args) .1 .1 .0 .now) (same-length-6
+                                  record {
+                                    before = record {
+                                      before = record {
+                                        before = record {
+                                          before = record {
+                                            before = record {
+                                              before = record {
+                                                before
+                                                    = record { before = record { before = c .before; attempt = c .attempt }; words = record { given = g } };
+                                                slice-known3 =
+                                                    record { given = g' };
+                                              };
+                                              terms = record { given = g'' };
+                                            };
+                                            slice-known4 = record { given = g'3 };
+                                          };
+                                          work = record
+                                              { given = g'4 };
+                                        };
+                                        match = record { keys3 = k };
+                                      };
+                                      n = record { given = g'9 };
+                                    };
                                     known-told3 = record { given = g'10 };
                                   }),
                               (Path'.refl, (tt, (tt, (tt, tt)))),
@@ -5204,18 +5216,18 @@ module _ (claims· : Claims) where
                                       before = record {
                                         before = record {
                                           before = record
-                                              { before = record { before = c .before; attempt = c .attempt }; f = record { given = g } };
+                                              { before = record { before = c .before; attempt = c .attempt }; words = record { given = g } };
                                           slice-known3 = record
                                               { given = g' };
                                         };
-                                        t = record { given = g'' };
+                                        terms = record { given = g'' };
                                       };
                                       slice-known4 = record { given = g'3 };
                                     };
-                                w = record { given = g'4 };
+                                work = record
+                                    { given = g'4 };
                               };
-                              match
-                                  = record { keys3 = k };
+                              match = record { keys3 = k };
                             };
                             n = record { given = g'9 };
                           };
@@ -5223,18 +5235,17 @@ module _ (claims· : Claims) where
                         },
                       ),
                     ),
-                    Match.each-below 3 (λ j.
-                        ((Unit {0} × (Run.OneOf (0 ∷ []) j → ⊥)) × (Run.OneOf (1 ∷ []) j → ⊥)) × (Run.OneOf (2 ∷ []) j → ⊥) → ⊥)
-                        (λ n. n .1 Path'.refl, (λ n. n .0 .1 Path'.refl, (λ n. n .0 .0 .1 Path'.refl, tt))) (Declared.tagOf Answer.the-type (Row.get
-                        22 (T54 .locals) (m38 record {
+                    Match.each-below 3 (λ j. ((Unit {0} × (Run.OneOf (0 ∷ []) j → ⊥)) × (Run.OneOf (1 ∷ []) j → ⊥)) × (Run.OneOf (2 ∷ []) j →
+                        ⊥) → ⊥) (λ n. n .1 Path'.refl, (λ n. n .0 .1 Path'.refl, (λ n. n .0 .0 .1 Path'.refl, tt))) (Declared.tagOf Answer.the-type
+                        (Row.get 22 (T54 .locals) (m38 record {
                           before = record {
                             before = record {
                               before = record
-                                  { before = record { before = c .before; attempt = c .attempt }; f = record { given = g } };
+                                  { before = record { before = c .before; attempt = c .attempt }; words = record { given = g } };
                               slice-known3 = record
                                   { given = g' };
                             };
-                            t = record { given = g'' };
+                            terms = record { given = g'' };
                           };
                           slice-known4 = record { given = g'3 };
                         } g'4))) (Match.tag-small
@@ -5242,11 +5253,11 @@ module _ (claims· : Claims) where
                           before = record {
                             before = record {
                               before = record
-                                  { before = record { before = c .before; attempt = c .attempt }; f = record { given = g } };
+                                  { before = record { before = c .before; attempt = c .attempt }; words = record { given = g } };
                               slice-known3 = record
                                   { given = g' };
                             };
-                            t = record { given = g'' };
+                            terms = record { given = g'' };
                           };
                           slice-known4 = record { given = g'3 };
                         } g'4))),
@@ -5258,9 +5269,9 @@ module _ (claims· : Claims) where
         )
 
         lay4 : (c : After-nested) → at73 (W3 (c .before .before .before .before .before .before) (c .before .before .before .before
-            .before .loop .f) (c .before .before .before .before .before .loop .t) (c .before .before .before .before .before .loop .w)
-            (c .before .before .before .before .before .loop .s) (c .before .before .before .before .before .loop .i)) (m20 (c .before)
-            (After-nested·gave c))
+            .before .loop .words) (c .before .before .before .before .before .loop .terms) (c .before .before .before .before .before
+            .loop .work) (c .before .before .before .before .before .loop .s) (c .before .before .before .before .before .loop .i)) (m20
+            (c .before) (After-nested·gave c))
         lay4 = λ c. (
           λ taken. λ g. (
             Path'.refl,
@@ -5388,8 +5399,8 @@ module _ (claims· : Claims) where
           ),
         )
 
-        lay3 : (c : Then1) → at82 (W3 (c .before .before .before) (c .before .before .loop .f) (c .before .before .loop .t) (c .before
-            .before .loop .w) (c .before .before .loop .s) (c .before .before .loop .i)) (m10 (c .before))
+        lay3 : (c : Then1) → at82 (W3 (c .before .before .before) (c .before .before .loop .words) (c .before .before .loop .terms) (c
+            .before .before .loop .work) (c .before .before .loop .s) (c .before .before .loop .i)) (m10 (c .before))
         lay3 = λ c. (
           add-i record { before = c .before; if1 = c .if1 },
           λ g. (
@@ -5470,35 +5481,34 @@ module _ (claims· : Claims) where
                           shared-slice-known = record { given = g'' };
                         };
                         loop = record
-                            { f = vs .0; t = vs .1; w = vs .2; s = vs .3; i = vs .4; inv = inv };
+                            { words = vs .0; terms = vs .1; work = vs .2; s = vs .3; i = vs .4; inv = inv };
                       };
                   struct-known = record { given = g'3 };
                 };
-                if1 =
-                    record {
-                      taken = Tests.ltb-true (Row.get 9 (T9 .locals) (m8 record {
+                if1 = record {
+                  taken = Tests.ltb-true (Row.get 9 (T9 .locals) (m8 record {
+                    before = record {
+                      before = record
+                          { before = record { before = c; slice-known = record { given = g } }; slice-known2 = record { given = g' } };
+                      shared-slice-known = record { given = g'' };
+                    };
+                    loop = record
+                        { words = vs .0; terms = vs .1; work = vs .2; s = vs .3; i = vs .4; inv = inv };
+                  } g'3)) (Sequent.struct .as-values (Row.get
+                      7 (T9 .locals) (m8 record {
                         before = record {
                           before = record
                               { before = record { before = c; slice-known = record { given = g } }; slice-known2 = record { given = g' } };
                           shared-slice-known = record { given = g'' };
                         };
                         loop = record
-                            { f = vs .0; t = vs .1; w = vs .2; s = vs .3; i = vs .4; inv = inv };
-                      } g'3)) (Sequent.struct .as-values (Row.get 7 (T9
-                          .locals) (m8 record {
-                            before = record {
-                              before = record
-                                  { before = record { before = c; slice-known = record { given = g } }; slice-known2 = record { given = g' } };
-                              shared-slice-known = record { given = g'' };
-                            };
-                            loop = record
-                                { f = vs .0; t = vs .1; w = vs .2; s = vs .3; i = vs .4; inv = inv };
-                          } g'3)) .1 .0) taken;
-                    };
+                            { words = vs .0; terms = vs .1; work = vs .2; s = vs .3; i = vs .4; inv = inv };
+                      } g'3)) .1 .0) taken;
+                };
               },
-              λ left. lay2 record {
-                before
-                    = record {
+              λ left. lay2
+                  record {
+                    before = record {
                       before = record {
                         before = record {
                           before = record
@@ -5506,12 +5516,11 @@ module _ (claims· : Claims) where
                           shared-slice-known = record { given = g'' };
                         };
                         loop = record
-                            { f = vs .0; t = vs .1; w = vs .2; s = vs .3; i = vs .4; inv = inv };
+                            { words = vs .0; terms = vs .1; work = vs .2; s = vs .3; i = vs .4; inv = inv };
                       };
                       struct-known = record { given = g'3 };
                     };
-                if1 =
-                    record {
+                    if1 = record {
                       left = Tests.ltb-false (Row.get 9 (T9 .locals) (m8 record {
                         before = record {
                           before = record
@@ -5519,19 +5528,19 @@ module _ (claims· : Claims) where
                           shared-slice-known = record { given = g'' };
                         };
                         loop = record
-                            { f = vs .0; t = vs .1; w = vs .2; s = vs .3; i = vs .4; inv = inv };
-                      } g'3)) (Sequent.struct .as-values (Row.get 7 (T9
-                          .locals) (m8 record {
+                            { words = vs .0; terms = vs .1; work = vs .2; s = vs .3; i = vs .4; inv = inv };
+                      } g'3)) (Sequent.struct .as-values (Row.get
+                          7 (T9 .locals) (m8 record {
                             before = record {
                               before = record
                                   { before = record { before = c; slice-known = record { given = g } }; slice-known2 = record { given = g' } };
                               shared-slice-known = record { given = g'' };
                             };
                             loop = record
-                                { f = vs .0; t = vs .1; w = vs .2; s = vs .3; i = vs .4; inv = inv };
+                                { words = vs .0; terms = vs .1; work = vs .2; s = vs .3; i = vs .4; inv = inv };
                           } g'3)) .1 .0) left;
                     };
-              },
+                  },
             ),
           ),
         )
@@ -5542,21 +5551,22 @@ module _ (claims· : Claims) where
           asked = λ a good pre bs. laid record {
             κs = κs;
             args = record {
-              f = a .0;
-              t = a .1 .0;
-              w = a .1 .1 .0;
-              k = a .1 .1 .1 .0;
-              m =
-                  a .1 .1 .1 .1 .0;
-              st = a .1 .1 .1 .1 .1 .0;
-              q = a .1 .1 .1 .1 .1 .1 .0;
+              words = a .0;
+              terms = a .1 .0;
+              work = a .1 .1 .0;
+              names = a .1
+                  .1 .1 .0;
+              limits = a .1 .1 .1 .1 .0;
+              state = a .1 .1 .1 .1 .1 .0;
+              sequent = a .1 .1 .1 .1 .1 .1 .0;
             };
             good = good;
-            pre = pre;
+            pre =
+                pre;
           }
 
         module _ {M : Type 1} (𝓤 : URA.URA M) (H : Wp.Heap 𝓤) (A : Atoms.Atoms 𝓤) (W : Kit.Given 𝓤 H A) (𝓣 : Wp.Tables 𝓤 H) (known0 :
-            Plain.Known 𝓤 H A W 𝓣 2 ps·0 r·0 (claims· .0) (claims· .1) "rules::nested") (known1 : Plain.Known 𝓤 H A W 𝓣 4 ps·1 r·1
+            Plain.Known 𝓤 H A W 𝓣 2 ps·0 r·0 (claims· .0) (claims· .1) "search_left::nested") (known1 : Plain.Known 𝓤 H A W 𝓣 4 ps·1 r·1
             (claims· .2) (claims· .3) "prove::attempt") where
           pub spec : Statement.Triple 𝓤 (Wp.WpFn 𝓤 H (𝓣 .C) (𝓣 .Λ) (Function.fnOf 4 ps r xs m hs body)) (Function.plainOf 𝓤 H A 4 ps r
               Pre· Post·)

@@ -1,14 +1,14 @@
 -- Made by tools/records.py from the sources; antt refuses it where it is stale. Assumes nothing.
 use Prim.Native.Nat
-use Rattle.context.proofs.Answer
-use Rattle.context.proofs.Answer.Laws
 use Rattle.context.proofs.Element
-use Rattle.context.proofs.Limits
-use Rattle.context.proofs.Limits.Laws as Laws'
-use Rattle.context.proofs.Sequent
-use Rattle.context.proofs.Sequent.Laws as Laws''
-use Rattle.context.proofs.State
-use Rattle.context.proofs.State.Laws as Laws'3
+use Rattle.meter.proofs.Answer
+use Rattle.meter.proofs.Answer.Laws
+use Rattle.meter.proofs.Limits
+use Rattle.meter.proofs.Limits.Laws as Laws'
+use Rattle.meter.proofs.Sequent
+use Rattle.meter.proofs.Sequent.Laws as Laws''
+use Rattle.meter.proofs.State
+use Rattle.meter.proofs.State.Laws as Laws'3
 use borrow.Author.Called
 use borrow.Author.Tests
 use borrow.Enum.Make
@@ -93,17 +93,17 @@ abbrev y8 : Syntax.Ty
 y8 = Syntax.tyStruct (38 ∷ 91 ∷ 93 ∷ []) (Syntax.tcons y7 (Syntax.tcons y0 Syntax.tnil))
 
 abbrev y9 : Syntax.Ty
-y9 = Syntax.tyStruct (99 ∷ 111 ∷ 110 ∷ 116 ∷ 101 ∷ 120 ∷ 116 ∷ 58 ∷ 58 ∷ 83 ∷ 101 ∷ 113 ∷ 117 ∷ 101 ∷ 110 ∷ 116 ∷ []) (Syntax.tcons y0
+y9 = Syntax.tyStruct (109 ∷ 101 ∷ 116 ∷ 101 ∷ 114 ∷ 58 ∷ 58 ∷ 83 ∷ 101 ∷ 113 ∷ 117 ∷ 101 ∷ 110 ∷ 116 ∷ []) (Syntax.tcons y0
     (Syntax.tcons y0 (Syntax.tcons y0 (Syntax.tcons y0 Syntax.tnil))))
 
 abbrev y10 : Syntax.Ty
-y10 = Syntax.tyStruct (99 ∷ 111 ∷ 110 ∷ 116 ∷ 101 ∷ 120 ∷ 116 ∷ 58 ∷ 58 ∷ 83 ∷ 116 ∷ 97 ∷ 116 ∷ 101 ∷ []) (Syntax.tcons y0 (Syntax.tcons
-    y0 (Syntax.tcons y0 (Syntax.tcons y0 Syntax.tnil))))
+y10 = Syntax.tyStruct (109 ∷ 101 ∷ 116 ∷ 101 ∷ 114 ∷ 58 ∷ 58 ∷ 83 ∷ 116 ∷ 97 ∷ 116 ∷ 101 ∷ []) (Syntax.tcons y0 (Syntax.tcons y0
+    (Syntax.tcons y0 (Syntax.tcons y0 Syntax.tnil))))
 
 abbrev y11 : Syntax.Ty
-y11 = Syntax.tyEnum (99 ∷ 111 ∷ 110 ∷ 116 ∷ 101 ∷ 120 ∷ 116 ∷ 58 ∷ 58 ∷ 65 ∷ 110 ∷ 115 ∷ 119 ∷ 101 ∷ 114 ∷ []) (Syntax.ttcons
-    (Syntax.tcons y0 (Syntax.tcons y10 Syntax.tnil)) (Syntax.ttcons (Syntax.tcons y10 Syntax.tnil) (Syntax.ttcons (Syntax.tcons y0
-    (Syntax.tcons y10 Syntax.tnil)) Syntax.ttnil)))
+y11 = Syntax.tyEnum (109 ∷ 101 ∷ 116 ∷ 101 ∷ 114 ∷ 58 ∷ 58 ∷ 65 ∷ 110 ∷ 115 ∷ 119 ∷ 101 ∷ 114 ∷ []) (Syntax.ttcons (Syntax.tcons y0
+    (Syntax.tcons y10 Syntax.tnil)) (Syntax.ttcons (Syntax.tcons y10 Syntax.tnil) (Syntax.ttcons (Syntax.tcons y0 (Syntax.tcons y10
+    Syntax.tnil)) Syntax.ttnil)))
 
 abbrev y12 : Row.Entry
 y12 = (0, Rows.any-gone y11)
@@ -190,8 +190,8 @@ abbrev y39 : Row.Entry
 y39 = (0, Rows.whole (Declared.row Answer.the-type))
 
 abbrev y40 : Syntax.Ty
-y40 = Syntax.tyStruct (99 ∷ 111 ∷ 110 ∷ 116 ∷ 101 ∷ 120 ∷ 116 ∷ 58 ∷ 58 ∷ 76 ∷ 105 ∷ 109 ∷ 105 ∷ 116 ∷ 115 ∷ []) (Syntax.tcons y0
-    (Syntax.tcons y0 (Syntax.tcons y0 (Syntax.tcons y0 Syntax.tnil))))
+y40 = Syntax.tyStruct (109 ∷ 101 ∷ 116 ∷ 101 ∷ 114 ∷ 58 ∷ 58 ∷ 76 ∷ 105 ∷ 109 ∷ 105 ∷ 116 ∷ 115 ∷ []) (Syntax.tcons y0 (Syntax.tcons y0
+    (Syntax.tcons y0 (Syntax.tcons y0 Syntax.tnil))))
 
 abbrev y41 : Row.Entry
 y41 = (5, Rows.any-gone y40)
@@ -546,7 +546,7 @@ b1 = Syntax.assign (Syntax.place 11 []) (Syntax.op2 (Syntax.add Syntax.unsigned)
     (Syntax.int Syntax.w64 1))
 
 abbrev b2 : Syntax.Body
-b2 = Syntax.call "context::lack" ((Syntax.copy (Syntax.place 5 [])) ∷ (Syntax.copy (Syntax.place 6 ((Syntax.field 1) ∷ []))) ∷
+b2 = Syntax.call "meter::lack" ((Syntax.copy (Syntax.place 5 [])) ∷ (Syntax.copy (Syntax.place 6 ((Syntax.field 1) ∷ []))) ∷
     (Syntax.copy (Syntax.place 6 ((Syntax.field 2) ∷ []))) ∷ (Syntax.copy (Syntax.place 6 ((Syntax.field 3) ∷ []))) ∷ (Syntax.copy
     (Syntax.place 10 [])) ∷ (Syntax.copy (Syntax.place 11 [])) ∷ []) (Syntax.place 9 [])
 
@@ -1116,7 +1116,7 @@ module _ (claims· : Claims) where
     module _ (M : Type 1) where
       abbrev pub Closed : Type 2
       Closed = (𝓤 : URA.URA M) (H : Wp.Heap 𝓤) (A : Atoms.Atoms 𝓤) (W : Kit.Given 𝓤 H A) (𝓣 : Wp.Tables 𝓤 H) (known0 : Plain.Known 𝓤 H A
-          W 𝓣 0 ps·0 r·0 (claims· .0) (claims· .1) "context::lack") (known1 : Plain.Known 𝓤 H A W 𝓣 1 ps·1 r·1 (claims· .2) (claims· .3)
+          W 𝓣 0 ps·0 r·0 (claims· .0) (claims· .1) "meter::lack") (known1 : Plain.Known 𝓤 H A W 𝓣 1 ps·1 r·1 (claims· .2) (claims· .3)
           "context::copy_up") (known2 : Plain.Known 𝓤 H A W 𝓣 0 ps·2 r·2 (claims· .4) (claims· .5) "context::up") (known3 : Plain.Known
           𝓤 H A W 𝓣 4 ps·3 r·3 (claims· .6) (claims· .7) "prove::right") → Statement.Triple 𝓤 (Wp.WpFn 𝓤 H (𝓣 .C) (𝓣 .Λ) (Function.fnOf
           4 ps r xs m hs body)) (Function.plainOf 𝓤 H A 4 ps r Pre· Post·)
@@ -1307,7 +1307,7 @@ module _ (claims· : Claims) where
 
       module _ {M : Type 1} (𝓤 : URA.URA M) (H : Wp.Heap 𝓤) (A : Atoms.Atoms 𝓤) (W : Kit.Given 𝓤 H A) (𝓣 : Wp.Tables 𝓤 H) where
         abbrev Knowns : Type 1
-        Knowns = Plain.Known 𝓤 H A W 𝓣 0 ps·0 r·0 (claims· .0) (claims· .1) "context::lack" × Plain.Known 𝓤 H A W 𝓣 1 ps·1 r·1 (claims·
+        Knowns = Plain.Known 𝓤 H A W 𝓣 0 ps·0 r·0 (claims· .0) (claims· .1) "meter::lack" × Plain.Known 𝓤 H A W 𝓣 1 ps·1 r·1 (claims·
             .2) (claims· .3) "context::copy_up" × Plain.Known 𝓤 H A W 𝓣 0 ps·2 r·2 (claims· .4) (claims· .5) "context::up" × Plain.Known
             𝓤 H A W 𝓣 4 ps·3 r·3 (claims· .6) (claims· .7) "prove::right"
 
@@ -2070,7 +2070,7 @@ module _ (claims· : Claims) where
 
           d52 : Typed.Typed 𝓤 H A 𝓣 E G8 b34 Δ0 at52
           d52 = Typed.s-seq 𝓤 H A W 𝓣 E G8 G9 b2 b33 Δ0 (Typed.both s7) at51 (Plain.t-call-plain 𝓤 H A W 𝓣 0 ps·0 r·0 (claims· .0)
-              (claims· .1) "context::lack" (known .0) E (λ pos β. β) G8 (
+              (claims· .1) "meter::lack" (known .0) E (λ pos β. β) G8 (
                 record { pos = 5; st = []; d = 0; at = λ x. x },
                 (
                   Num.vFld 6
@@ -2151,31 +2151,32 @@ module _ (claims· : Claims) where
 
       module _ (κs : Lifetimes.Lfts 4) where
         pub record Args : Type 0 where
-          pub f : Kinds.Den {n = 4} κs (MutSlice.pMutS (Referent.rtF (Referent.fInt Syntax.w32)) 0 tt)
-          pub t : Kinds.Den {n = 4} κs (MutSlice.pMutS (Referent.rtF (Referent.fInt Syntax.w16)) 1 tt)
-          pub w : Kinds.Den {n = 4} κs (MutSlice.pMutS Element.row 2 tt)
-          pub k : Kinds.Den {n = 4} κs (ShrSlice.pShrS (Referent.rtF (Referent.fInt Syntax.w8)) 3 tt)
-          pub m : Kinds.Den {n = 4} κs (Value.pVal record {
+          pub words : Kinds.Den {n = 4} κs (MutSlice.pMutS (Referent.rtF (Referent.fInt Syntax.w32)) 0 tt)
+          pub terms : Kinds.Den {n = 4} κs (MutSlice.pMutS (Referent.rtF (Referent.fInt Syntax.w16)) 1 tt)
+          pub work : Kinds.Den {n = 4} κs (MutSlice.pMutS Element.row 2 tt)
+          pub names : Kinds.Den {n = 4} κs (ShrSlice.pShrS (Referent.rtF (Referent.fInt Syntax.w8)) 3 tt)
+          pub limits : Kinds.Den {n = 4} κs (Value.pVal record {
             ty = Declared'.row Limits.the-type;
             one = Path'.refl;
-            val = Laws'5.val
-                Limits.the-type Laws'.the-laws;
+            val =
+                Laws'5.val Limits.the-type Laws'.the-laws;
             tells = Laws'5.tells Limits.the-type Laws'.the-laws;
-            still = Laws'5.still Limits.the-type
-                Laws'.the-copy Exit.yes;
+            still = Laws'5.still
+                Limits.the-type Laws'.the-copy Exit.yes;
             row = Rows.whole (Declared'.row Limits.the-type);
             rd = λ x. x;
             mk = λ x. x;
-          } λ M 𝓤 H A W. record {
-            copies = Laws'5.copy Limits.the-type Laws'.the-copy 𝓤 H A W;
-            lawful = Laws'5.lawful Limits.the-type Laws'.the-laws 𝓤 H A
-                W;
-            makes = Laws'5.makes Limits.the-type Laws'.the-plain 𝓤 H A;
-            in-mem = Local.mem-whole 𝓤 H A W (Declared'.row
-                Limits.the-type);
-            of-mem = Local.whole-mem 𝓤 H A W (Declared'.row Limits.the-type);
-          })
-          pub st : Kinds.Den {n = 4} κs (Value.pVal record {
+          } λ M
+              𝓤 H A W. record {
+                copies = Laws'5.copy Limits.the-type Laws'.the-copy 𝓤 H A W;
+                lawful = Laws'5.lawful Limits.the-type
+                    Laws'.the-laws 𝓤 H A W;
+                makes = Laws'5.makes Limits.the-type Laws'.the-plain 𝓤 H A;
+                in-mem = Local.mem-whole 𝓤 H A W
+                    (Declared'.row Limits.the-type);
+                of-mem = Local.whole-mem 𝓤 H A W (Declared'.row Limits.the-type);
+              })
+          pub state : Kinds.Den {n = 4} κs (Value.pVal record {
             ty = Declared'.row State.the-type;
             one = Path'.refl;
             val = Laws'5.val
@@ -2195,11 +2196,11 @@ module _ (claims· : Claims) where
                 State.the-type);
             of-mem = Local.whole-mem 𝓤 H A W (Declared'.row State.the-type);
           })
-          pub q : Kinds.Den {n = 4} κs (Value.pVal record {
+          pub sequent : Kinds.Den {n = 4} κs (Value.pVal record {
             ty = Declared'.row Sequent.the-type;
             one = Path'.refl;
-            val = Laws'5.val
-                Sequent.the-type Laws''.the-laws;
+            val =
+                Laws'5.val Sequent.the-type Laws''.the-laws;
             tells = Laws'5.tells Sequent.the-type Laws''.the-laws;
             still = Laws'5.still
                 Sequent.the-type Laws''.the-copy Exit.yes;
@@ -2219,7 +2220,7 @@ module _ (claims· : Claims) where
           pub goal : Kinds.Den {n = 4} κs (Num.pNum Syntax.w64)
 
         abbrev pub dens : (a : Args) → Kinds.Dens κs ps
-        dens = λ a. (a .f, (a .t, (a .w, (a .k, (a .m, (a .st, (a .q, (a .goal, tt))))))))
+        dens = λ a. (a .words, (a .terms, (a .work, (a .names, (a .limits, (a .state, (a .sequent, (a .goal, tt))))))))
 
         module _ (args· : Args) where
           pub record Ranges : Type 0 where
@@ -2477,25 +2478,25 @@ module _ (claims· : Claims) where
       m24 = λ before given. s25 .next (m23 (before .before) (After-copy-up·gave before)) given
 
       module _ (before· : After-copy-up) where
-        pub record After-w·own : Type 0 where
+        pub record After-work·own : Type 0 where
           pub given : s25 .gives (m23 (before· .before) (After-copy-up·gave before·))
 
-      pub record After-w : Type 0 where
+      pub record After-work : Type 0 where
         pub before : After-copy-up
-        pub w : After-w·own before
+        pub work : After-work·own before
 
-      abbrev pub m25 : (before : After-w) → (given : s28 .gives (m24 (before .before) (before .w .given))) → Typed.Mo T31
-      m25 = λ before given. s28 .next (m24 (before .before) (before .w .given)) given
+      abbrev pub m25 : (before : After-work) → (given : s28 .gives (m24 (before .before) (before .work .given))) → Typed.Mo T31
+      m25 = λ before given. s28 .next (m24 (before .before) (before .work .given)) given
 
-      abbrev pub m26 : (before : After-w) → (given : s28 .gives (m24 (before .before) (before .w .given))) → Typed.Mo T32
+      abbrev pub m26 : (before : After-work) → (given : s28 .gives (m24 (before .before) (before .work .given))) → Typed.Mo T32
       m26 = λ before given. s29 .next (m25 before given)
 
-      module _ (before· : After-w) where
+      module _ (before· : After-work) where
         pub record After-right-arg·own : Type 0 where
-          pub given : s28 .gives (m24 (before· .before) (before· .w .given))
+          pub given : s28 .gives (m24 (before· .before) (before· .work .given))
 
       pub record After-right-arg : Type 0 where
-        pub before : After-w
+        pub before : After-work
         pub right-arg : After-right-arg·own before
 
       abbrev pub m27 : (before : After-right-arg) → (given : s31 .gives (m26 (before .before) (before .right-arg .given))) → Typed.Mo
@@ -2630,22 +2631,22 @@ module _ (claims· : Claims) where
       m38 = λ before given. s44 .next (m37 (before .before) (After-right·gave before)) given
 
       module _ (before· : After-right) where
-        pub record After-f·own : Type 0 where
+        pub record After-words·own : Type 0 where
           pub given : s44 .gives (m37 (before· .before) (After-right·gave before·))
 
-      pub record After-f : Type 0 where
+      pub record After-words : Type 0 where
         pub before : After-right
-        pub f : After-f·own before
+        pub words : After-words·own before
 
-      abbrev pub m39 : (before : After-f) → (given : s45 .gives (m38 (before .before) (before .f .given))) → Typed.Mo T48
-      m39 = λ before given. s45 .next (m38 (before .before) (before .f .given)) given
+      abbrev pub m39 : (before : After-words) → (given : s45 .gives (m38 (before .before) (before .words .given))) → Typed.Mo T48
+      m39 = λ before given. s45 .next (m38 (before .before) (before .words .given)) given
 
-      module _ (before· : After-f) where
+      module _ (before· : After-words) where
         pub record After-slice-known3·own : Type 0 where
-          pub given : s45 .gives (m38 (before· .before) (before· .f .given))
+          pub given : s45 .gives (m38 (before· .before) (before· .words .given))
 
       pub record After-slice-known3 : Type 0 where
-        pub before : After-f
+        pub before : After-words
         pub slice-known3 : After-slice-known3·own before
 
       abbrev pub m40 : (before : After-slice-known3) → (given : s48 .gives (m39 (before .before) (before .slice-known3 .given))) →
@@ -2653,22 +2654,22 @@ module _ (claims· : Claims) where
       m40 = λ before given. s48 .next (m39 (before .before) (before .slice-known3 .given)) given
 
       module _ (before· : After-slice-known3) where
-        pub record After-t·own : Type 0 where
+        pub record After-terms·own : Type 0 where
           pub given : s48 .gives (m39 (before· .before) (before· .slice-known3 .given))
 
-      pub record After-t : Type 0 where
+      pub record After-terms : Type 0 where
         pub before : After-slice-known3
-        pub t : After-t·own before
+        pub terms : After-terms·own before
 
-      abbrev pub m41 : (before : After-t) → (given : s49 .gives (m40 (before .before) (before .t .given))) → Typed.Mo T52
-      m41 = λ before given. s49 .next (m40 (before .before) (before .t .given)) given
+      abbrev pub m41 : (before : After-terms) → (given : s49 .gives (m40 (before .before) (before .terms .given))) → Typed.Mo T52
+      m41 = λ before given. s49 .next (m40 (before .before) (before .terms .given)) given
 
-      module _ (before· : After-t) where
+      module _ (before· : After-terms) where
         pub record After-slice-known4·own : Type 0 where
-          pub given : s49 .gives (m40 (before· .before) (before· .t .given))
+          pub given : s49 .gives (m40 (before· .before) (before· .terms .given))
 
       pub record After-slice-known4 : Type 0 where
-        pub before : After-t
+        pub before : After-terms
         pub slice-known4 : After-slice-known4·own before
 
       abbrev pub m42 : (before : After-slice-known4) → (given : s52 .gives (m41 (before .before) (before .slice-known4 .given))) →
@@ -2680,48 +2681,48 @@ module _ (claims· : Claims) where
       m43 = λ before given. s54 (m42 before given)
 
       module _ (before· : After-slice-known4) where
-        pub record After-w2·own : Type 0 where
+        pub record After-work2·own : Type 0 where
           pub given : s52 .gives (m41 (before· .before) (before· .slice-known4 .given))
 
-      pub record After-w2 : Type 0 where
+      pub record After-work2 : Type 0 where
         pub before : After-slice-known4
-        pub w2 : After-w2·own before
+        pub work2 : After-work2·own before
 
       abbrev pub Need-same-length : Type 0
-      Need-same-length = (c : After-w2) → MutSlice.SameLen (Row.get 1 (T57 .locals) (m43 (c .before) (c .w2 .given))) (dens (c .before
+      Need-same-length = (c : After-work2) → MutSlice.SameLen (Row.get 1 (T57 .locals) (m43 (c .before) (c .work2 .given))) (dens (c
           .before .before .before .before .before .before .before .before .before .before .before .before .before .before .before
-          .before .before .before .before .κs) (c .before .before .before .before .before .before .before .before .before .before
-          .before .before .before .before .before .before .before .before .before .before .args) .0)
+          .before .before .before .before .before .κs) (c .before .before .before .before .before .before .before .before .before
+          .before .before .before .before .before .before .before .before .before .before .before .args) .0)
 
       abbrev pub Need-same-length-2 : Type 0
-      Need-same-length-2 = (c : After-w2) → MutSlice.SameLen (Row.get 2 (T57 .locals) (m43 (c .before) (c .w2 .given))) (dens (c .before
+      Need-same-length-2 = (c : After-work2) → MutSlice.SameLen (Row.get 2 (T57 .locals) (m43 (c .before) (c .work2 .given))) (dens (c
           .before .before .before .before .before .before .before .before .before .before .before .before .before .before .before
-          .before .before .before .before .κs) (c .before .before .before .before .before .before .before .before .before .before
-          .before .before .before .before .before .before .before .before .before .before .args) .1 .0)
+          .before .before .before .before .before .κs) (c .before .before .before .before .before .before .before .before .before
+          .before .before .before .before .before .before .before .before .before .before .before .args) .1 .0)
 
       abbrev pub Need-same-length-3 : Type 0
-      Need-same-length-3 = (c : After-w2) → MutSlice.SameLen (Row.get 3 (T57 .locals) (m43 (c .before) (c .w2 .given))) (dens (c .before
+      Need-same-length-3 = (c : After-work2) → MutSlice.SameLen (Row.get 3 (T57 .locals) (m43 (c .before) (c .work2 .given))) (dens (c
           .before .before .before .before .before .before .before .before .before .before .before .before .before .before .before
-          .before .before .before .before .κs) (c .before .before .before .before .before .before .before .before .before .before
-          .before .before .before .before .before .before .before .before .before .before .args) .1 .1 .0)
+          .before .before .before .before .before .κs) (c .before .before .before .before .before .before .before .before .before
+          .before .before .before .before .before .before .before .before .before .before .before .args) .1 .1 .0)
 
       abbrev pub Need-returns-2 : Type 0
-      Need-returns-2 = (c : After-w2) → Post· (c .before .before .before .before .before .before .before .before .before .before .before
-          .before .before .before .before .before .before .before .before .before .κs) (dens (c .before .before .before .before .before
+      Need-returns-2 = (c : After-work2) → Post· (c .before .before .before .before .before .before .before .before .before .before
+          .before .before .before .before .before .before .before .before .before .before .κs) (dens (c .before .before .before .before
+          .before .before .before .before .before .before .before .before .before .before .before .before .before .before .before
+          .before .κs) (c .before .before .before .before .before .before .before .before .before .before .before .before .before
+          .before .before .before .before .before .before .before .args)) (Function.resV r (c .before .before .before .before .before
           .before .before .before .before .before .before .before .before .before .before .before .before .before .before .before .κs)
-          (c .before .before .before .before .before .before .before .before .before .before .before .before .before .before .before
-          .before .before .before .before .before .args)) (Function.resV r (c .before .before .before .before .before .before .before
-          .before .before .before .before .before .before .before .before .before .before .before .before .before .κs) (m43 (c .before)
-          (c .w2 .given) .0)) (Clauses.atExit (Kinds.endedOf 4 ps r) (c .before .before .before .before .before .before .before .before
-          .before .before .before .before .before .before .before .before .before .before .before .before .κs) (dens (c .before .before
+          (m43 (c .before) (c .work2 .given) .0)) (Clauses.atExit (Kinds.endedOf 4 ps r) (c .before .before .before .before .before
+          .before .before .before .before .before .before .before .before .before .before .before .before .before .before .before .κs)
+          (dens (c .before .before .before .before .before .before .before .before .before .before .before .before .before .before
+          .before .before .before .before .before .before .κs) (c .before .before .before .before .before .before .before .before
+          .before .before .before .before .before .before .before .before .before .before .before .before .args)) (Enter.lastsP (c
           .before .before .before .before .before .before .before .before .before .before .before .before .before .before .before
-          .before .before .before .κs) (c .before .before .before .before .before .before .before .before .before .before .before
-          .before .before .before .before .before .before .before .before .before .args)) (Enter.lastsP (c .before .before .before
+          .before .before .before .before .before .κs) 1 ps xs (dens (c .before .before .before .before .before .before .before .before
+          .before .before .before .before .before .before .before .before .before .before .before .before .κs) (c .before .before
           .before .before .before .before .before .before .before .before .before .before .before .before .before .before .before
-          .before .before .κs) 1 ps xs (dens (c .before .before .before .before .before .before .before .before .before .before .before
-          .before .before .before .before .before .before .before .before .before .κs) (c .before .before .before .before .before
-          .before .before .before .before .before .before .before .before .before .before .before .before .before .before .before
-          .args)) (m43 (c .before) (c .w2 .given) .1)))
+          .before .before .before .args)) (m43 (c .before) (c .work2 .given) .1)))
 
       module _ (add-lack : Need-add-lack) (add-lack-2 : Need-add-lack-2) (lack-requires : Need-lack-requires) (returns : Need-returns)
           (copy-up-requires : Need-copy-up-requires) (up-requires : Need-up-requires) (right-requires : Need-right-requires)
@@ -2743,162 +2744,165 @@ module _ (claims· : Claims) where
                         before = record {
                           before = record {
                             before = record
-                                { before = record { before = c .before; right = c .right }; f = record { given = g } };
+                                { before = record { before = c .before; right = c .right }; words = record { given = g } };
                             slice-known3 = record
                                 { given = g' };
                           };
-                          t = record { given = g'' };
+                          terms = record { given = g'' };
                         };
                         slice-known4 = record { given = g'3 };
-                      } g'4) .ptr) (Row.get 1 (T57 .locals)
-                      (m43 record {
+                      } g'4) .ptr) (Row.get 1 (T57
+                      .locals) (m43 record {
                         before = record {
                           before = record {
                             before = record
-                                { before = record { before = c .before; right = c .right }; f = record { given = g } };
+                                { before = record { before = c .before; right = c .right }; words = record { given = g } };
                             slice-known3 = record
                                 { given = g' };
                           };
-                          t = record { given = g'' };
+                          terms = record { given = g'' };
                         };
                         slice-known4 = record { given = g'3 };
-                      } g'4) .name) (Row.get 1 (T57 .locals)
-                      (m43 record {
+                      } g'4) .name) (Row.get 1 (T57
+                      .locals) (m43 record {
                         before = record {
                           before = record {
                             before = record
-                                { before = record { before = c .before; right = c .right }; f = record { given = g } };
+                                { before = record { before = c .before; right = c .right }; words = record { given = g } };
                             slice-known3 = record
                                 { given = g' };
                           };
-                          t = record { given = g'' };
+                          terms = record { given = g'' };
                         };
                         slice-known4 = record { given = g'3 };
-                      } g'4) .now) (dens (c .before .before
-                      .before .before .before .before .before .before .before .before .before .before .before .before .before .κs) (c .before
-                      .before .before .before .before .before .before .before .before .before .before .before .before .before .before .args) .0
-                      .now) (same-length record {
+                      } g'4) .now) (dens (c .before
+                      .before .before .before .before .before .before .before .before .before .before .before .before .before .before .κs) (c
+                      .before .before .before .before .before .before .before .before .before .before .before .before .before .before .before
+                      .args) .0 .now) (same-length record {
                         before = record {
                           before = record {
                             before = record {
                               before = record
-                                  { before = record { before = c .before; right = c .right }; f = record { given = g } };
+                                  { before = record { before = c .before; right = c .right }; words = record { given = g } };
                               slice-known3 = record
                                   { given = g' };
                             };
-                            t = record { given = g'' };
+                            terms = record { given = g'' };
                           };
                           slice-known4 = record { given = g'3 };
                         };
-                        w2 = record { given = g'4 };
+                        work2 = record
+                            { given = g'4 };
                       }),
                   (
                     MutSlice.fix-len (Row.get 2 (T57 .locals) (m43 record {
                       before = record {
                         before = record {
-                          before = record
-                              { before = record { before = c .before; right = c .right }; f = record { given = g } };
+                          before =
+                              record { before = record { before = c .before; right = c .right }; words = record { given = g } };
                           slice-known3 = record
                               { given = g' };
                         };
-                        t = record { given = g'' };
+                        terms = record { given = g'' };
                       };
                       slice-known4 = record { given = g'3 };
-                    } g'4) .ptr) (Row.get 2 (T57 .locals)
-                        (m43 record {
+                    } g'4) .ptr) (Row.get 2 (T57
+                        .locals) (m43 record {
                           before = record {
                             before = record {
                               before = record
-                                  { before = record { before = c .before; right = c .right }; f = record { given = g } };
+                                  { before = record { before = c .before; right = c .right }; words = record { given = g } };
                               slice-known3 = record
                                   { given = g' };
                             };
-                            t = record { given = g'' };
+                            terms = record { given = g'' };
                           };
                           slice-known4 = record { given = g'3 };
-                        } g'4) .name) (Row.get 2 (T57 .locals)
-                        (m43 record {
+                        } g'4) .name) (Row.get 2 (T57
+                        .locals) (m43 record {
                           before = record {
                             before = record {
                               before = record
-                                  { before = record { before = c .before; right = c .right }; f = record { given = g } };
+                                  { before = record { before = c .before; right = c .right }; words = record { given = g } };
                               slice-known3 = record
                                   { given = g' };
                             };
-                            t = record { given = g'' };
+                            terms = record { given = g'' };
                           };
                           slice-known4 = record { given = g'3 };
-                        } g'4) .now) (dens (c .before .before
-                        .before .before .before .before .before .before .before .before .before .before .before .before .before .κs) (c .before
-                        .before .before .before .before .before .before .before .before .before .before .before .before .before .before .args) .1 .0
-                        .now) (same-length-2 record {
+                        } g'4) .now) (dens (c .before
+                        .before .before .before .before .before .before .before .before .before .before .before .before .before .before .κs) (c
+                        .before .before .before .before .before .before .before .before .before .before .before .before .before .before .before
+                        .args) .1 .0 .now) (same-length-2 record {
                           before = record {
                             before = record {
                               before = record {
                                 before = record
-                                    { before = record { before = c .before; right = c .right }; f = record { given = g } };
+                                    { before = record { before = c .before; right = c .right }; words = record { given = g } };
                                 slice-known3 = record
                                     { given = g' };
                               };
-                              t = record { given = g'' };
+                              terms = record { given = g'' };
                             };
                             slice-known4 = record { given = g'3 };
                           };
-                          w2 = record { given = g'4 };
+                          work2 = record
+                              { given = g'4 };
                         }),
                     (
                       MutSlice.fix-len (Row.get 3 (T57 .locals) (m43 record {
                         before = record {
                           before = record {
-                            before = record
-                                { before = record { before = c .before; right = c .right }; f = record { given = g } };
+                            before =
+                                record { before = record { before = c .before; right = c .right }; words = record { given = g } };
                             slice-known3 = record
                                 { given = g' };
                           };
-                          t = record { given = g'' };
+                          terms = record { given = g'' };
                         };
                         slice-known4 = record { given = g'3 };
-                      } g'4) .ptr) (Row.get 3 (T57 .locals)
-                          (m43 record {
+                      } g'4) .ptr) (Row.get 3 (T57
+                          .locals) (m43 record {
                             before = record {
                               before = record {
                                 before = record
-                                    { before = record { before = c .before; right = c .right }; f = record { given = g } };
+                                    { before = record { before = c .before; right = c .right }; words = record { given = g } };
                                 slice-known3 = record
                                     { given = g' };
                               };
-                              t = record { given = g'' };
+                              terms = record { given = g'' };
                             };
                             slice-known4 = record { given = g'3 };
-                          } g'4) .name) (Row.get 3 (T57 .locals)
-                          (m43 record {
+                          } g'4) .name) (Row.get 3 (T57
+                          .locals) (m43 record {
                             before = record {
                               before = record {
                                 before = record
-                                    { before = record { before = c .before; right = c .right }; f = record { given = g } };
+                                    { before = record { before = c .before; right = c .right }; words = record { given = g } };
                                 slice-known3 = record
                                     { given = g' };
                               };
-                              t = record { given = g'' };
+                              terms = record { given = g'' };
                             };
                             slice-known4 = record { given = g'3 };
-                          } g'4) .now) (dens (c .before .before
-                          .before .before .before .before .before .before .before .before .before .before .before .before .before .κs) (c .before
-                          .before .before .before .before .before .before .before .before .before .before .before .before .before .before .args) .1 .1
-                          .0 .now) (same-length-3 record {
+                          } g'4) .now) (dens (c .before
+                          .before .before .before .before .before .before .before .before .before .before .before .before .before .before .κs) (c
+                          .before .before .before .before .before .before .before .before .before .before .before .before .before .before .before
+                          .args) .1 .1 .0 .now) (same-length-3 record {
                             before = record {
                               before = record {
                                 before = record {
                                   before = record
-                                      { before = record { before = c .before; right = c .right }; f = record { given = g } };
+                                      { before = record { before = c .before; right = c .right }; words = record { given = g } };
                                   slice-known3 = record
                                       { given = g' };
                                 };
-                                t = record { given = g'' };
+                                terms = record { given = g'' };
                               };
                               slice-known4 = record { given = g'3 };
                             };
-                            w2 = record { given = g'4 };
+                            work2 = record
+                                { given = g'4 };
                           }),
                       (Path'.refl, (tt, (tt, (tt, (tt, tt))))),
                     ),
@@ -2908,16 +2912,17 @@ module _ (claims· : Claims) where
                   before = record {
                     before = record {
                       before = record {
-                        before
-                            = record { before = record { before = c .before; right = c .right }; f = record { given = g } };
+                        before = record
+                            { before = record { before = c .before; right = c .right }; words = record { given = g } };
                         slice-known3 = record
                             { given = g' };
                       };
-                      t = record { given = g'' };
+                      terms = record { given = g'' };
                     };
                     slice-known4 = record { given = g'3 };
                   };
-                  w2 = record { given = g'4 };
+                  work2 = record
+                      { given = g'4 };
                 },
               ),
             ),
@@ -2972,7 +2977,7 @@ module _ (claims· : Claims) where
                     before = record {
                       before = record {
                         before = record
-                            { before = record { before = c .before; copy-up = c .copy-up }; w = record { given = g } };
+                            { before = record { before = c .before; copy-up = c .copy-up }; work = record { given = g } };
                         right-arg = record
                             { given = g' };
                       };
@@ -2986,7 +2991,7 @@ module _ (claims· : Claims) where
                           before = record {
                             before = record {
                               before = record
-                                  { before = record { before = c .before; copy-up = c .copy-up }; w = record { given = g } };
+                                  { before = record { before = c .before; copy-up = c .copy-up }; work = record { given = g } };
                               right-arg = record
                                   { given = g' };
                             };
@@ -2997,7 +3002,7 @@ module _ (claims· : Claims) where
                     up = Called.called ps·2 r·2
                         (claims· .5) T38 (record { pos = 7; st = []; d = 0; at = λ x. x }, (Num.vAt 8 λ x. x, tt)) (m30 record {
                           before = record {
-                            before = record { before = record { before = c .before; copy-up = c .copy-up }; w = record { given = g } };
+                            before = record { before = record { before = c .before; copy-up = c .copy-up }; work = record { given = g } };
                             right-arg =
                                 record { given = g' };
                           };
@@ -3149,15 +3154,16 @@ module _ (claims· : Claims) where
           asked = λ a good pre bs. laid record {
             κs = κs;
             args = record {
-              f = a .0;
-              t = a .1 .0;
-              w = a .1 .1 .0;
-              k = a .1 .1 .1 .0;
-              m =
-                  a .1 .1 .1 .1 .0;
-              st = a .1 .1 .1 .1 .1 .0;
-              q = a .1 .1 .1 .1 .1 .1 .0;
-              goal = a .1 .1 .1 .1 .1 .1 .1 .0;
+              words = a .0;
+              terms = a .1 .0;
+              work = a .1 .1 .0;
+              names = a .1
+                  .1 .1 .0;
+              limits = a .1 .1 .1 .1 .0;
+              state = a .1 .1 .1 .1 .1 .0;
+              sequent = a .1 .1 .1 .1 .1 .1 .0;
+              goal = a .1 .1 .1 .1
+                  .1 .1 .1 .0;
             };
             good = good;
             fits = record { goal = record { fits = good .1 .1 .1 .1 .1 .1 .1 .0 .1 } };
@@ -3165,7 +3171,7 @@ module _ (claims· : Claims) where
           }
 
         module _ {M : Type 1} (𝓤 : URA.URA M) (H : Wp.Heap 𝓤) (A : Atoms.Atoms 𝓤) (W : Kit.Given 𝓤 H A) (𝓣 : Wp.Tables 𝓤 H) (known0 :
-            Plain.Known 𝓤 H A W 𝓣 0 ps·0 r·0 (claims· .0) (claims· .1) "context::lack") (known1 : Plain.Known 𝓤 H A W 𝓣 1 ps·1 r·1
+            Plain.Known 𝓤 H A W 𝓣 0 ps·0 r·0 (claims· .0) (claims· .1) "meter::lack") (known1 : Plain.Known 𝓤 H A W 𝓣 1 ps·1 r·1
             (claims· .2) (claims· .3) "context::copy_up") (known2 : Plain.Known 𝓤 H A W 𝓣 0 ps·2 r·2 (claims· .4) (claims· .5)
             "context::up") (known3 : Plain.Known 𝓤 H A W 𝓣 4 ps·3 r·3 (claims· .6) (claims· .7) "prove::right") where
           pub spec : Statement.Triple 𝓤 (Wp.WpFn 𝓤 H (𝓣 .C) (𝓣 .Λ) (Function.fnOf 4 ps r xs m hs body)) (Function.plainOf 𝓤 H A 4 ps r

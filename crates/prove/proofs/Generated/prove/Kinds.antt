@@ -1,6 +1,6 @@
 -- Made by tools/records.py from the sources; antt refuses it where it is stale. Assumes nothing.
-use Rattle.claim.proofs.Outcome
-use Rattle.claim.proofs.Outcome.Laws
+use Rattle.call.proofs.Outcome
+use Rattle.call.proofs.Outcome.Laws
 use Rattle.context.proofs.Element
 use borrow.Fn.Kinds
 use borrow.Kind.MutSlice

@@ -1,14 +1,14 @@
 -- Made by tools/records.py from the sources; antt refuses it where it is stale. Assumes nothing.
 use Prim.Native.Nat
-use Rattle.context.proofs.Answer
-use Rattle.context.proofs.Answer.Laws
 use Rattle.context.proofs.Element
-use Rattle.context.proofs.Limits
-use Rattle.context.proofs.Limits.Laws as Laws'
-use Rattle.context.proofs.Sequent
-use Rattle.context.proofs.Sequent.Laws as Laws''
-use Rattle.context.proofs.State
-use Rattle.context.proofs.State.Laws as Laws'3
+use Rattle.meter.proofs.Answer
+use Rattle.meter.proofs.Answer.Laws
+use Rattle.meter.proofs.Limits
+use Rattle.meter.proofs.Limits.Laws as Laws'
+use Rattle.meter.proofs.Sequent
+use Rattle.meter.proofs.Sequent.Laws as Laws''
+use Rattle.meter.proofs.State
+use Rattle.meter.proofs.State.Laws as Laws'3
 use borrow.Author.Called
 use borrow.Author.Tests
 use borrow.Enum.Make
@@ -70,8 +70,8 @@ abbrev y0 : Syntax.Ty
 y0 = Syntax.tyInt Syntax.w64
 
 abbrev y1 : Syntax.Ty
-y1 = Syntax.tyStruct (99 ∷ 111 ∷ 110 ∷ 116 ∷ 101 ∷ 120 ∷ 116 ∷ 58 ∷ 58 ∷ 83 ∷ 116 ∷ 97 ∷ 116 ∷ 101 ∷ []) (Syntax.tcons y0 (Syntax.tcons
-    y0 (Syntax.tcons y0 (Syntax.tcons y0 Syntax.tnil))))
+y1 = Syntax.tyStruct (109 ∷ 101 ∷ 116 ∷ 101 ∷ 114 ∷ 58 ∷ 58 ∷ 83 ∷ 116 ∷ 97 ∷ 116 ∷ 101 ∷ []) (Syntax.tcons y0 (Syntax.tcons y0
+    (Syntax.tcons y0 (Syntax.tcons y0 Syntax.tnil))))
 
 abbrev y2 : Syntax.Ty
 y2 = Syntax.tyInt Syntax.w32
@@ -83,9 +83,9 @@ abbrev y4 : Syntax.Ty
 y4 = Syntax.tyStruct (38 ∷ 91 ∷ 93 ∷ []) (Syntax.tcons y3 (Syntax.tcons y0 Syntax.tnil))
 
 abbrev y5 : Syntax.Ty
-y5 = Syntax.tyEnum (99 ∷ 111 ∷ 110 ∷ 116 ∷ 101 ∷ 120 ∷ 116 ∷ 58 ∷ 58 ∷ 65 ∷ 110 ∷ 115 ∷ 119 ∷ 101 ∷ 114 ∷ []) (Syntax.ttcons
-    (Syntax.tcons y0 (Syntax.tcons y1 Syntax.tnil)) (Syntax.ttcons (Syntax.tcons y1 Syntax.tnil) (Syntax.ttcons (Syntax.tcons y0
-    (Syntax.tcons y1 Syntax.tnil)) Syntax.ttnil)))
+y5 = Syntax.tyEnum (109 ∷ 101 ∷ 116 ∷ 101 ∷ 114 ∷ 58 ∷ 58 ∷ 65 ∷ 110 ∷ 115 ∷ 119 ∷ 101 ∷ 114 ∷ []) (Syntax.ttcons (Syntax.tcons y0
+    (Syntax.tcons y1 Syntax.tnil)) (Syntax.ttcons (Syntax.tcons y1 Syntax.tnil) (Syntax.ttcons (Syntax.tcons y0 (Syntax.tcons y1
+    Syntax.tnil)) Syntax.ttnil)))
 
 abbrev y6 : Syntax.Ty
 y6 = Syntax.tyInt Syntax.w16
@@ -238,8 +238,8 @@ abbrev y55 : Row.Entry
 y55 = (0, Rows.whole (Declared.row Answer.the-type))
 
 abbrev y56 : Syntax.Ty
-y56 = Syntax.tyStruct (99 ∷ 111 ∷ 110 ∷ 116 ∷ 101 ∷ 120 ∷ 116 ∷ 58 ∷ 58 ∷ 76 ∷ 105 ∷ 109 ∷ 105 ∷ 116 ∷ 115 ∷ []) (Syntax.tcons y0
-    (Syntax.tcons y0 (Syntax.tcons y0 (Syntax.tcons y0 Syntax.tnil))))
+y56 = Syntax.tyStruct (109 ∷ 101 ∷ 116 ∷ 101 ∷ 114 ∷ 58 ∷ 58 ∷ 76 ∷ 105 ∷ 109 ∷ 105 ∷ 116 ∷ 115 ∷ []) (Syntax.tcons y0 (Syntax.tcons y0
+    (Syntax.tcons y0 (Syntax.tcons y0 Syntax.tnil))))
 
 abbrev y57 : Row.Entry
 y57 = (5, Rows.any-gone y56)
@@ -248,7 +248,7 @@ abbrev y58 : Row.Entry
 y58 = (6, Rows.any-gone y1)
 
 abbrev y59 : Syntax.Ty
-y59 = Syntax.tyStruct (99 ∷ 111 ∷ 110 ∷ 116 ∷ 101 ∷ 120 ∷ 116 ∷ 58 ∷ 58 ∷ 83 ∷ 101 ∷ 113 ∷ 117 ∷ 101 ∷ 110 ∷ 116 ∷ []) (Syntax.tcons y0
+y59 = Syntax.tyStruct (109 ∷ 101 ∷ 116 ∷ 101 ∷ 114 ∷ 58 ∷ 58 ∷ 83 ∷ 101 ∷ 113 ∷ 117 ∷ 101 ∷ 110 ∷ 116 ∷ []) (Syntax.tcons y0
     (Syntax.tcons y0 (Syntax.tcons y0 (Syntax.tcons y0 Syntax.tnil))))
 
 abbrev y60 : Row.Entry
@@ -839,7 +839,7 @@ abbrev b5 : Syntax.Body
 b5 = Syntax.cond (Syntax.copy (Syntax.place 10 [])) b3 b4
 
 abbrev b6 : Syntax.Body
-b6 = Syntax.call "context::counted" ((Syntax.copy (Syntax.place 6 [])) ∷ []) (Syntax.place 8 [])
+b6 = Syntax.call "meter::counted" ((Syntax.copy (Syntax.place 6 [])) ∷ []) (Syntax.place 8 [])
 
 abbrev b7 : Syntax.Body
 b7 = Syntax.assign (Syntax.place 11 []) (Syntax.addrOf (Syntax.place 1 ((Syntax.field 0) ∷ (Syntax.deref y2) ∷ [])))
@@ -863,9 +863,9 @@ b12 = Syntax.assign (Syntax.place 15 []) (Syntax.aggregate ((Syntax.copy (Syntax
     ((Syntax.field 1) ∷ []))) ∷ []))
 
 abbrev b13 : Syntax.Body
-b13 = Syntax.call "rules::close" ((Syntax.copy (Syntax.place 15 [])) ∷ (Syntax.copy (Syntax.place 5 [])) ∷ (Syntax.copy (Syntax.place 8
-    [])) ∷ (Syntax.int Syntax.w64 12) ∷ (Syntax.int Syntax.w64 0) ∷ (Syntax.int Syntax.w64 0) ∷ (Syntax.int Syntax.w64 0) ∷ (Syntax.int
-    Syntax.w64 0) ∷ (Syntax.int Syntax.w64 0) ∷ []) (Syntax.place 13 [])
+b13 = Syntax.call "search_left::close" ((Syntax.copy (Syntax.place 15 [])) ∷ (Syntax.copy (Syntax.place 5 [])) ∷ (Syntax.copy
+    (Syntax.place 8 [])) ∷ (Syntax.int Syntax.w64 12) ∷ (Syntax.int Syntax.w64 0) ∷ (Syntax.int Syntax.w64 0) ∷ (Syntax.int Syntax.w64
+    0) ∷ (Syntax.int Syntax.w64 0) ∷ (Syntax.int Syntax.w64 0) ∷ []) (Syntax.place 13 [])
 
 abbrev b14 : Syntax.Body
 b14 = Syntax.seq b12 b13
@@ -2002,8 +2002,8 @@ module _ (claims· : Claims) where
     module _ (M : Type 1) where
       abbrev pub Closed : Type 2
       Closed = (𝓤 : URA.URA M) (H : Wp.Heap 𝓤) (A : Atoms.Atoms 𝓤) (W : Kit.Given 𝓤 H A) (𝓣 : Wp.Tables 𝓤 H) (known0 : Plain.Known 𝓤 H A
-          W 𝓣 0 ps·0 r·0 (claims· .0) (claims· .1) "context::counted") (known1 : Plain.Known 𝓤 H A W 𝓣 1 ps·1 r·1 (claims· .2) (claims·
-          .3) "formula::kind") (known2 : Plain.Known 𝓤 H A W 𝓣 1 ps·2 r·2 (claims· .4) (claims· .5) "rules::close") (known3 :
+          W 𝓣 0 ps·0 r·0 (claims· .0) (claims· .1) "meter::counted") (known1 : Plain.Known 𝓤 H A W 𝓣 1 ps·1 r·1 (claims· .2) (claims·
+          .3) "formula::kind") (known2 : Plain.Known 𝓤 H A W 𝓣 1 ps·2 r·2 (claims· .4) (claims· .5) "search_left::close") (known3 :
           Plain.Known 𝓤 H A W 𝓣 4 ps·3 r·3 (claims· .6) (claims· .7) "prove::right_and") (known4 : Plain.Known 𝓤 H A W 𝓣 4 ps·4 r·4
           (claims· .8) (claims· .9) "prove::right_impl") (known5 : Plain.Known 𝓤 H A W 𝓣 4 ps·5 r·5 (claims· .10) (claims· .11)
           "prove::left") → Statement.Triple 𝓤 (Wp.WpFn 𝓤 H (𝓣 .C) (𝓣 .Λ) (Function.fnOf 4 ps r xs m hs body)) (Function.plainOf 𝓤 H A 4
@@ -2264,8 +2264,8 @@ module _ (claims· : Claims) where
 
       module _ {M : Type 1} (𝓤 : URA.URA M) (H : Wp.Heap 𝓤) (A : Atoms.Atoms 𝓤) (W : Kit.Given 𝓤 H A) (𝓣 : Wp.Tables 𝓤 H) where
         abbrev Knowns : Type 1
-        Knowns = Plain.Known 𝓤 H A W 𝓣 0 ps·0 r·0 (claims· .0) (claims· .1) "context::counted" × Plain.Known 𝓤 H A W 𝓣 1 ps·1 r·1
-            (claims· .2) (claims· .3) "formula::kind" × Plain.Known 𝓤 H A W 𝓣 1 ps·2 r·2 (claims· .4) (claims· .5) "rules::close" ×
+        Knowns = Plain.Known 𝓤 H A W 𝓣 0 ps·0 r·0 (claims· .0) (claims· .1) "meter::counted" × Plain.Known 𝓤 H A W 𝓣 1 ps·1 r·1 (claims·
+            .2) (claims· .3) "formula::kind" × Plain.Known 𝓤 H A W 𝓣 1 ps·2 r·2 (claims· .4) (claims· .5) "search_left::close" ×
             Plain.Known 𝓤 H A W 𝓣 4 ps·3 r·3 (claims· .6) (claims· .7) "prove::right_and" × Plain.Known 𝓤 H A W 𝓣 4 ps·4 r·4 (claims·
             .8) (claims· .9) "prove::right_impl" × Plain.Known 𝓤 H A W 𝓣 4 ps·5 r·5 (claims· .10) (claims· .11) "prove::left"
 
@@ -3122,7 +3122,7 @@ module _ (claims· : Claims) where
               (Typed.g-post 𝓤 H A W 𝓣 E G31 G34 G35 b13 (λ Ψ. Typed.both s28 (Typed.pass T32 T33 s29 (Typed.pass T33 T34 s30 Ψ))) (λ Ψ.
               Ψ) (Typed.g-post 𝓤 H A W 𝓣 E G31 G33 G34 b13 (λ Ψ. Typed.both s28 (Typed.pass T32 T33 s29 Ψ)) (Typed.pass T33 T34 s30)
               (Typed.g-post 𝓤 H A W 𝓣 E G31 G32 G33 b13 (Typed.both s28) (Typed.pass T32 T33 s29) (Plain.t-call-plain 𝓤 H A W 𝓣 1 ps·2
-              r·2 (claims· .4) (claims· .5) "rules::close" (known .2) E (λ pos β. β) G31 (
+              r·2 (claims· .4) (claims· .5) "search_left::close" (known .2) E (λ pos β. β) G31 (
                 record
                     { pos = 15; ty = Syntax.tyRef Syntax.erased Syntax.mut y6; ref = λ x. x },
                 (
@@ -4548,7 +4548,7 @@ module _ (claims· : Claims) where
 
           d74 : Typed.Typed 𝓤 H A 𝓣 E G8 b74 Δ0 at74
           d74 = Typed.s-seq 𝓤 H A W 𝓣 E G8 G15 b6 b73 Δ0 (Typed.both s12) at73 (Plain.t-call-plain 𝓤 H A W 𝓣 0 ps·0 r·0 (claims· .0)
-              (claims· .1) "context::counted" (known .0) E (λ pos β. β) G8 (record { pos = 6; st = []; d = 0; at = λ x. x }, tt) 8 []
+              (claims· .1) "meter::counted" (known .0) E (λ pos β. β) G8 (record { pos = 6; st = []; d = 0; at = λ x. x }, tt) 8 []
               (Call.sub-id 𝓤 H A W (G8 .slots)) (
                 (
                   Yields.yields-copy 𝓤 H A W (λ ρ. Unit) (Declared'.row State.the-type) Path'.refl
@@ -4599,31 +4599,32 @@ module _ (claims· : Claims) where
 
       module _ (κs : Lifetimes.Lfts 4) where
         pub record Args : Type 0 where
-          pub f : Kinds.Den {n = 4} κs (MutSlice.pMutS (Referent.rtF (Referent.fInt Syntax.w32)) 0 tt)
-          pub t : Kinds.Den {n = 4} κs (MutSlice.pMutS (Referent.rtF (Referent.fInt Syntax.w16)) 1 tt)
-          pub w : Kinds.Den {n = 4} κs (MutSlice.pMutS Element.row 2 tt)
-          pub k : Kinds.Den {n = 4} κs (ShrSlice.pShrS (Referent.rtF (Referent.fInt Syntax.w8)) 3 tt)
-          pub m : Kinds.Den {n = 4} κs (Value.pVal record {
+          pub words : Kinds.Den {n = 4} κs (MutSlice.pMutS (Referent.rtF (Referent.fInt Syntax.w32)) 0 tt)
+          pub terms : Kinds.Den {n = 4} κs (MutSlice.pMutS (Referent.rtF (Referent.fInt Syntax.w16)) 1 tt)
+          pub work : Kinds.Den {n = 4} κs (MutSlice.pMutS Element.row 2 tt)
+          pub names : Kinds.Den {n = 4} κs (ShrSlice.pShrS (Referent.rtF (Referent.fInt Syntax.w8)) 3 tt)
+          pub limits : Kinds.Den {n = 4} κs (Value.pVal record {
             ty = Declared'.row Limits.the-type;
             one = Path'.refl;
-            val = Laws'5.val
-                Limits.the-type Laws'.the-laws;
+            val =
+                Laws'5.val Limits.the-type Laws'.the-laws;
             tells = Laws'5.tells Limits.the-type Laws'.the-laws;
-            still = Laws'5.still Limits.the-type
-                Laws'.the-copy Exit.yes;
+            still = Laws'5.still
+                Limits.the-type Laws'.the-copy Exit.yes;
             row = Rows.whole (Declared'.row Limits.the-type);
             rd = λ x. x;
             mk = λ x. x;
-          } λ M 𝓤 H A W. record {
-            copies = Laws'5.copy Limits.the-type Laws'.the-copy 𝓤 H A W;
-            lawful = Laws'5.lawful Limits.the-type Laws'.the-laws 𝓤 H A
-                W;
-            makes = Laws'5.makes Limits.the-type Laws'.the-plain 𝓤 H A;
-            in-mem = Local.mem-whole 𝓤 H A W (Declared'.row
-                Limits.the-type);
-            of-mem = Local.whole-mem 𝓤 H A W (Declared'.row Limits.the-type);
-          })
-          pub st : Kinds.Den {n = 4} κs (Value.pVal record {
+          } λ M
+              𝓤 H A W. record {
+                copies = Laws'5.copy Limits.the-type Laws'.the-copy 𝓤 H A W;
+                lawful = Laws'5.lawful Limits.the-type
+                    Laws'.the-laws 𝓤 H A W;
+                makes = Laws'5.makes Limits.the-type Laws'.the-plain 𝓤 H A;
+                in-mem = Local.mem-whole 𝓤 H A W
+                    (Declared'.row Limits.the-type);
+                of-mem = Local.whole-mem 𝓤 H A W (Declared'.row Limits.the-type);
+              })
+          pub state : Kinds.Den {n = 4} κs (Value.pVal record {
             ty = Declared'.row State.the-type;
             one = Path'.refl;
             val = Laws'5.val
@@ -4643,11 +4644,11 @@ module _ (claims· : Claims) where
                 State.the-type);
             of-mem = Local.whole-mem 𝓤 H A W (Declared'.row State.the-type);
           })
-          pub q : Kinds.Den {n = 4} κs (Value.pVal record {
+          pub sequent : Kinds.Den {n = 4} κs (Value.pVal record {
             ty = Declared'.row Sequent.the-type;
             one = Path'.refl;
-            val = Laws'5.val
-                Sequent.the-type Laws''.the-laws;
+            val =
+                Laws'5.val Sequent.the-type Laws''.the-laws;
             tells = Laws'5.tells Sequent.the-type Laws''.the-laws;
             still = Laws'5.still
                 Sequent.the-type Laws''.the-copy Exit.yes;
@@ -4666,7 +4667,7 @@ module _ (claims· : Claims) where
               })
 
         abbrev pub dens : (a : Args) → Kinds.Dens κs ps
-        dens = λ a. (a .f, (a .t, (a .w, (a .k, (a .m, (a .st, (a .q, tt)))))))
+        dens = λ a. (a .words, (a .terms, (a .work, (a .names, (a .limits, (a .state, (a .sequent, tt)))))))
 
       abbrev pub m0 : (κs : Lifetimes.Lfts 4) → (args : Args κs) → Typed.Mo T0
       m0 = λ κs args. (tt, Enter.partsP κs 1 ps xs (dens κs args))
@@ -4756,7 +4757,7 @@ module _ (claims· : Claims) where
       module _ (before· : After-struct-known2) where
         pub record Then1·own : Type 0 where
           pub taken : Nat._≤_ (Limits.struct .as-values (Row.get 5 (T6 .locals) (m5 (before· .before) (before· .struct-known2 .given)))
-              .0) (State.struct .as-values (Row.get 6 (T6 .locals) (m5 (before· .before) (before· .struct-known2 .given))) .0)  -- told apart: 1.
+              .0) (State.struct .as-values (Row.get 6 (T6 .locals) (m5 (before· .before) (before· .struct-known2 .given))) .0)
 
       pub record Then1 : Type 0 where
         pub before : After-struct-known2
@@ -4788,7 +4789,7 @@ module _ (claims· : Claims) where
       module _ (before· : After-struct-known2) where
         pub record Else1·own : Type 0 where
           pub left : Nat._<_ (State.struct .as-values (Row.get 6 (T6 .locals) (m5 (before· .before) (before· .struct-known2 .given)))
-              .0) (Limits.struct .as-values (Row.get 5 (T6 .locals) (m5 (before· .before) (before· .struct-known2 .given))) .0)  -- told apart: 2.
+              .0) (Limits.struct .as-values (Row.get 5 (T6 .locals) (m5 (before· .before) (before· .struct-known2 .given))) .0)
 
       pub record Else1 : Type 0 where
         pub before : After-struct-known2
@@ -4954,22 +4955,22 @@ module _ (claims· : Claims) where
       m28 = λ before given. s32 .next (m27 (before .before) (After-close·gave before)) given
 
       module _ (before· : After-close) where
-        pub record After-t·own : Type 0 where
+        pub record After-terms·own : Type 0 where
           pub given : s32 .gives (m27 (before· .before) (After-close·gave before·))
 
-      pub record After-t : Type 0 where
+      pub record After-terms : Type 0 where
         pub before : After-close
-        pub t : After-t·own before
+        pub terms : After-terms·own before
 
-      abbrev pub m29 : (before : After-t) → (given : s33 .gives (m28 (before .before) (before .t .given))) → Typed.Mo T37
-      m29 = λ before given. s33 .next (m28 (before .before) (before .t .given)) given
+      abbrev pub m29 : (before : After-terms) → (given : s33 .gives (m28 (before .before) (before .terms .given))) → Typed.Mo T37
+      m29 = λ before given. s33 .next (m28 (before .before) (before .terms .given)) given
 
-      module _ (before· : After-t) where
+      module _ (before· : After-terms) where
         pub record After-slice-known3·own : Type 0 where
-          pub given : s33 .gives (m28 (before· .before) (before· .t .given))
+          pub given : s33 .gives (m28 (before· .before) (before· .terms .given))
 
       pub record After-slice-known3 : Type 0 where
-        pub before : After-t
+        pub before : After-terms
         pub slice-known3 : After-slice-known3·own before
 
       module _ (before· : After-kind) where
@@ -5124,22 +5125,22 @@ module _ (claims· : Claims) where
       m43 = λ before given. s52 .next (m42 (before .before) (After-right-and·gave before)) given
 
       module _ (before· : After-right-and) where
-        pub record After-f·own : Type 0 where
+        pub record After-words·own : Type 0 where
           pub given : s52 .gives (m42 (before· .before) (After-right-and·gave before·))
 
-      pub record After-f : Type 0 where
+      pub record After-words : Type 0 where
         pub before : After-right-and
-        pub f : After-f·own before
+        pub words : After-words·own before
 
-      abbrev pub m44 : (before : After-f) → (given : s53 .gives (m43 (before .before) (before .f .given))) → Typed.Mo T58
-      m44 = λ before given. s53 .next (m43 (before .before) (before .f .given)) given
+      abbrev pub m44 : (before : After-words) → (given : s53 .gives (m43 (before .before) (before .words .given))) → Typed.Mo T58
+      m44 = λ before given. s53 .next (m43 (before .before) (before .words .given)) given
 
-      module _ (before· : After-f) where
+      module _ (before· : After-words) where
         pub record After-slice-known4·own : Type 0 where
-          pub given : s53 .gives (m43 (before· .before) (before· .f .given))
+          pub given : s53 .gives (m43 (before· .before) (before· .words .given))
 
       pub record After-slice-known4 : Type 0 where
-        pub before : After-f
+        pub before : After-words
         pub slice-known4 : After-slice-known4·own before
 
       abbrev pub m45 : (before : After-slice-known4) → (given : s56 .gives (m44 (before .before) (before .slice-known4 .given))) →
@@ -5147,22 +5148,22 @@ module _ (claims· : Claims) where
       m45 = λ before given. s56 .next (m44 (before .before) (before .slice-known4 .given)) given
 
       module _ (before· : After-slice-known4) where
-        pub record After-t2·own : Type 0 where
+        pub record After-terms2·own : Type 0 where
           pub given : s56 .gives (m44 (before· .before) (before· .slice-known4 .given))
 
-      pub record After-t2 : Type 0 where
+      pub record After-terms2 : Type 0 where
         pub before : After-slice-known4
-        pub t2 : After-t2·own before
+        pub terms2 : After-terms2·own before
 
-      abbrev pub m46 : (before : After-t2) → (given : s57 .gives (m45 (before .before) (before .t2 .given))) → Typed.Mo T62
-      m46 = λ before given. s57 .next (m45 (before .before) (before .t2 .given)) given
+      abbrev pub m46 : (before : After-terms2) → (given : s57 .gives (m45 (before .before) (before .terms2 .given))) → Typed.Mo T62
+      m46 = λ before given. s57 .next (m45 (before .before) (before .terms2 .given)) given
 
-      module _ (before· : After-t2) where
+      module _ (before· : After-terms2) where
         pub record After-slice-known5·own : Type 0 where
-          pub given : s57 .gives (m45 (before· .before) (before· .t2 .given))
+          pub given : s57 .gives (m45 (before· .before) (before· .terms2 .given))
 
       pub record After-slice-known5 : Type 0 where
-        pub before : After-t2
+        pub before : After-terms2
         pub slice-known5 : After-slice-known5·own before
 
       abbrev pub m47 : (before : After-slice-known5) → (given : s60 .gives (m46 (before .before) (before .slice-known5 .given))) →
@@ -5170,12 +5171,12 @@ module _ (claims· : Claims) where
       m47 = λ before given. s60 .next (m46 (before .before) (before .slice-known5 .given)) given
 
       module _ (before· : After-slice-known5) where
-        pub record After-w·own : Type 0 where
+        pub record After-work·own : Type 0 where
           pub given : s60 .gives (m46 (before· .before) (before· .slice-known5 .given))
 
-      pub record After-w : Type 0 where
+      pub record After-work : Type 0 where
         pub before : After-slice-known5
-        pub w : After-w·own before
+        pub work : After-work·own before
 
       module _ (before· : Else2) where
         pub record Else3·own : Type 0 where
@@ -5329,22 +5330,22 @@ module _ (claims· : Claims) where
       m61 = λ before given. s79 .next (m60 (before .before) (After-right-impl·gave before)) given
 
       module _ (before· : After-right-impl) where
-        pub record After-f2·own : Type 0 where
+        pub record After-words2·own : Type 0 where
           pub given : s79 .gives (m60 (before· .before) (After-right-impl·gave before·))
 
-      pub record After-f2 : Type 0 where
+      pub record After-words2 : Type 0 where
         pub before : After-right-impl
-        pub f2 : After-f2·own before
+        pub words2 : After-words2·own before
 
-      abbrev pub m62 : (before : After-f2) → (given : s80 .gives (m61 (before .before) (before .f2 .given))) → Typed.Mo T86
-      m62 = λ before given. s80 .next (m61 (before .before) (before .f2 .given)) given
+      abbrev pub m62 : (before : After-words2) → (given : s80 .gives (m61 (before .before) (before .words2 .given))) → Typed.Mo T86
+      m62 = λ before given. s80 .next (m61 (before .before) (before .words2 .given)) given
 
-      module _ (before· : After-f2) where
+      module _ (before· : After-words2) where
         pub record After-slice-known6·own : Type 0 where
-          pub given : s80 .gives (m61 (before· .before) (before· .f2 .given))
+          pub given : s80 .gives (m61 (before· .before) (before· .words2 .given))
 
       pub record After-slice-known6 : Type 0 where
-        pub before : After-f2
+        pub before : After-words2
         pub slice-known6 : After-slice-known6·own before
 
       abbrev pub m63 : (before : After-slice-known6) → (given : s83 .gives (m62 (before .before) (before .slice-known6 .given))) →
@@ -5352,22 +5353,22 @@ module _ (claims· : Claims) where
       m63 = λ before given. s83 .next (m62 (before .before) (before .slice-known6 .given)) given
 
       module _ (before· : After-slice-known6) where
-        pub record After-t3·own : Type 0 where
+        pub record After-terms3·own : Type 0 where
           pub given : s83 .gives (m62 (before· .before) (before· .slice-known6 .given))
 
-      pub record After-t3 : Type 0 where
+      pub record After-terms3 : Type 0 where
         pub before : After-slice-known6
-        pub t3 : After-t3·own before
+        pub terms3 : After-terms3·own before
 
-      abbrev pub m64 : (before : After-t3) → (given : s84 .gives (m63 (before .before) (before .t3 .given))) → Typed.Mo T90
-      m64 = λ before given. s84 .next (m63 (before .before) (before .t3 .given)) given
+      abbrev pub m64 : (before : After-terms3) → (given : s84 .gives (m63 (before .before) (before .terms3 .given))) → Typed.Mo T90
+      m64 = λ before given. s84 .next (m63 (before .before) (before .terms3 .given)) given
 
-      module _ (before· : After-t3) where
+      module _ (before· : After-terms3) where
         pub record After-slice-known7·own : Type 0 where
-          pub given : s84 .gives (m63 (before· .before) (before· .t3 .given))
+          pub given : s84 .gives (m63 (before· .before) (before· .terms3 .given))
 
       pub record After-slice-known7 : Type 0 where
-        pub before : After-t3
+        pub before : After-terms3
         pub slice-known7 : After-slice-known7·own before
 
       abbrev pub m65 : (before : After-slice-known7) → (given : s87 .gives (m64 (before .before) (before .slice-known7 .given))) →
@@ -5375,12 +5376,12 @@ module _ (claims· : Claims) where
       m65 = λ before given. s87 .next (m64 (before .before) (before .slice-known7 .given)) given
 
       module _ (before· : After-slice-known7) where
-        pub record After-w2·own : Type 0 where
+        pub record After-work2·own : Type 0 where
           pub given : s87 .gives (m64 (before· .before) (before· .slice-known7 .given))
 
-      pub record After-w2 : Type 0 where
+      pub record After-work2 : Type 0 where
         pub before : After-slice-known7
-        pub w2 : After-w2·own before
+        pub work2 : After-work2·own before
 
       module _ (before· : Else3) where
         pub record Else4·own : Type 0 where
@@ -5513,22 +5514,22 @@ module _ (claims· : Claims) where
       m77 = λ before given. s104 .next (m76 (before .before) (After-left·gave before)) given
 
       module _ (before· : After-left) where
-        pub record After-f3·own : Type 0 where
+        pub record After-words3·own : Type 0 where
           pub given : s104 .gives (m76 (before· .before) (After-left·gave before·))
 
-      pub record After-f3 : Type 0 where
+      pub record After-words3 : Type 0 where
         pub before : After-left
-        pub f3 : After-f3·own before
+        pub words3 : After-words3·own before
 
-      abbrev pub m78 : (before : After-f3) → (given : s105 .gives (m77 (before .before) (before .f3 .given))) → Typed.Mo T111
-      m78 = λ before given. s105 .next (m77 (before .before) (before .f3 .given)) given
+      abbrev pub m78 : (before : After-words3) → (given : s105 .gives (m77 (before .before) (before .words3 .given))) → Typed.Mo T111
+      m78 = λ before given. s105 .next (m77 (before .before) (before .words3 .given)) given
 
-      module _ (before· : After-f3) where
+      module _ (before· : After-words3) where
         pub record After-slice-known8·own : Type 0 where
-          pub given : s105 .gives (m77 (before· .before) (before· .f3 .given))
+          pub given : s105 .gives (m77 (before· .before) (before· .words3 .given))
 
       pub record After-slice-known8 : Type 0 where
-        pub before : After-f3
+        pub before : After-words3
         pub slice-known8 : After-slice-known8·own before
 
       abbrev pub m79 : (before : After-slice-known8) → (given : s108 .gives (m78 (before .before) (before .slice-known8 .given))) →
@@ -5536,22 +5537,22 @@ module _ (claims· : Claims) where
       m79 = λ before given. s108 .next (m78 (before .before) (before .slice-known8 .given)) given
 
       module _ (before· : After-slice-known8) where
-        pub record After-t4·own : Type 0 where
+        pub record After-terms4·own : Type 0 where
           pub given : s108 .gives (m78 (before· .before) (before· .slice-known8 .given))
 
-      pub record After-t4 : Type 0 where
+      pub record After-terms4 : Type 0 where
         pub before : After-slice-known8
-        pub t4 : After-t4·own before
+        pub terms4 : After-terms4·own before
 
-      abbrev pub m80 : (before : After-t4) → (given : s109 .gives (m79 (before .before) (before .t4 .given))) → Typed.Mo T115
-      m80 = λ before given. s109 .next (m79 (before .before) (before .t4 .given)) given
+      abbrev pub m80 : (before : After-terms4) → (given : s109 .gives (m79 (before .before) (before .terms4 .given))) → Typed.Mo T115
+      m80 = λ before given. s109 .next (m79 (before .before) (before .terms4 .given)) given
 
-      module _ (before· : After-t4) where
+      module _ (before· : After-terms4) where
         pub record After-slice-known9·own : Type 0 where
-          pub given : s109 .gives (m79 (before· .before) (before· .t4 .given))
+          pub given : s109 .gives (m79 (before· .before) (before· .terms4 .given))
 
       pub record After-slice-known9 : Type 0 where
-        pub before : After-t4
+        pub before : After-terms4
         pub slice-known9 : After-slice-known9·own before
 
       abbrev pub m81 : (before : After-slice-known9) → (given : s112 .gives (m80 (before .before) (before .slice-known9 .given))) →
@@ -5559,12 +5560,12 @@ module _ (claims· : Claims) where
       m81 = λ before given. s112 .next (m80 (before .before) (before .slice-known9 .given)) given
 
       module _ (before· : After-slice-known9) where
-        pub record After-w3·own : Type 0 where
+        pub record After-work3·own : Type 0 where
           pub given : s112 .gives (m80 (before· .before) (before· .slice-known9 .given))
 
-      pub record After-w3 : Type 0 where
+      pub record After-work3 : Type 0 where
         pub before : After-slice-known9
-        pub w3 : After-w3·own before
+        pub work3 : After-work3·own before
 
       abbrev pub m82 : (before : After-slice-known7) → (given : s87 .gives (m64 (before .before) (before .slice-known7 .given))) →
           Typed.Mo T120
@@ -5606,13 +5607,13 @@ module _ (claims· : Claims) where
           Typed.Mo T123
       m91 = λ before given. s117 (m90 before given)
 
-      abbrev pub m92 : (before : After-t) → (given : s33 .gives (m28 (before .before) (before .t .given))) → Typed.Mo T124
+      abbrev pub m92 : (before : After-terms) → (given : s33 .gives (m28 (before .before) (before .terms .given))) → Typed.Mo T124
       m92 = λ before given. s118 (m29 before given)
 
-      abbrev pub m93 : (before : After-t) → (given : s33 .gives (m28 (before .before) (before .t .given))) → Typed.Mo T125
+      abbrev pub m93 : (before : After-terms) → (given : s33 .gives (m28 (before .before) (before .terms .given))) → Typed.Mo T125
       m93 = λ before given. s119 (m92 before given)
 
-      abbrev pub m94 : (before : After-t) → (given : s33 .gives (m28 (before .before) (before .t .given))) → Typed.Mo T126
+      abbrev pub m94 : (before : After-terms) → (given : s33 .gives (m28 (before .before) (before .terms .given))) → Typed.Mo T126
       m94 = λ before given. s120 (m93 before given)
 
       abbrev pub Need-same-length : Type 0
@@ -5654,40 +5655,40 @@ module _ (claims· : Claims) where
       m97 = λ before given. s120 (m96 before given)
 
       abbrev pub Need-same-length-3 : Type 0
-      Need-same-length-3 = (c : After-w) → MutSlice.SameLen (Row.get 1 (T126 .locals) (m97 (c .before) (c .w .given))) (dens (c .before
+      Need-same-length-3 = (c : After-work) → MutSlice.SameLen (Row.get 1 (T126 .locals) (m97 (c .before) (c .work .given))) (dens (c
           .before .before .before .before .before .before .before .before .before .before .before .before .before .before .before
-          .before .before .before .before .κs) (c .before .before .before .before .before .before .before .before .before .before
-          .before .before .before .before .before .before .before .before .before .before .args) .0)
+          .before .before .before .before .before .κs) (c .before .before .before .before .before .before .before .before .before
+          .before .before .before .before .before .before .before .before .before .before .before .args) .0)
 
       abbrev pub Need-same-length-4 : Type 0
-      Need-same-length-4 = (c : After-w) → MutSlice.SameLen (Row.get 2 (T126 .locals) (m97 (c .before) (c .w .given))) (dens (c .before
+      Need-same-length-4 = (c : After-work) → MutSlice.SameLen (Row.get 2 (T126 .locals) (m97 (c .before) (c .work .given))) (dens (c
           .before .before .before .before .before .before .before .before .before .before .before .before .before .before .before
-          .before .before .before .before .κs) (c .before .before .before .before .before .before .before .before .before .before
-          .before .before .before .before .before .before .before .before .before .before .args) .1 .0)
+          .before .before .before .before .before .κs) (c .before .before .before .before .before .before .before .before .before
+          .before .before .before .before .before .before .before .before .before .before .before .args) .1 .0)
 
       abbrev pub Need-same-length-5 : Type 0
-      Need-same-length-5 = (c : After-w) → MutSlice.SameLen (Row.get 3 (T126 .locals) (m97 (c .before) (c .w .given))) (dens (c .before
+      Need-same-length-5 = (c : After-work) → MutSlice.SameLen (Row.get 3 (T126 .locals) (m97 (c .before) (c .work .given))) (dens (c
           .before .before .before .before .before .before .before .before .before .before .before .before .before .before .before
-          .before .before .before .before .κs) (c .before .before .before .before .before .before .before .before .before .before
-          .before .before .before .before .before .before .before .before .before .before .args) .1 .1 .0)
+          .before .before .before .before .before .κs) (c .before .before .before .before .before .before .before .before .before
+          .before .before .before .before .before .before .before .before .before .before .before .args) .1 .1 .0)
 
       abbrev pub Need-returns-3 : Type 0
-      Need-returns-3 = (c : After-w) → Post· (c .before .before .before .before .before .before .before .before .before .before .before
-          .before .before .before .before .before .before .before .before .before .κs) (dens (c .before .before .before .before .before
+      Need-returns-3 = (c : After-work) → Post· (c .before .before .before .before .before .before .before .before .before .before
+          .before .before .before .before .before .before .before .before .before .before .κs) (dens (c .before .before .before .before
+          .before .before .before .before .before .before .before .before .before .before .before .before .before .before .before
+          .before .κs) (c .before .before .before .before .before .before .before .before .before .before .before .before .before
+          .before .before .before .before .before .before .before .args)) (Function.resV r (c .before .before .before .before .before
           .before .before .before .before .before .before .before .before .before .before .before .before .before .before .before .κs)
-          (c .before .before .before .before .before .before .before .before .before .before .before .before .before .before .before
-          .before .before .before .before .before .args)) (Function.resV r (c .before .before .before .before .before .before .before
-          .before .before .before .before .before .before .before .before .before .before .before .before .before .κs) (m97 (c .before)
-          (c .w .given) .0)) (Clauses.atExit (Kinds.endedOf 4 ps r) (c .before .before .before .before .before .before .before .before
-          .before .before .before .before .before .before .before .before .before .before .before .before .κs) (dens (c .before .before
+          (m97 (c .before) (c .work .given) .0)) (Clauses.atExit (Kinds.endedOf 4 ps r) (c .before .before .before .before .before
+          .before .before .before .before .before .before .before .before .before .before .before .before .before .before .before .κs)
+          (dens (c .before .before .before .before .before .before .before .before .before .before .before .before .before .before
+          .before .before .before .before .before .before .κs) (c .before .before .before .before .before .before .before .before
+          .before .before .before .before .before .before .before .before .before .before .before .before .args)) (Enter.lastsP (c
           .before .before .before .before .before .before .before .before .before .before .before .before .before .before .before
-          .before .before .before .κs) (c .before .before .before .before .before .before .before .before .before .before .before
-          .before .before .before .before .before .before .before .before .before .args)) (Enter.lastsP (c .before .before .before
+          .before .before .before .before .before .κs) 1 ps xs (dens (c .before .before .before .before .before .before .before .before
+          .before .before .before .before .before .before .before .before .before .before .before .before .κs) (c .before .before
           .before .before .before .before .before .before .before .before .before .before .before .before .before .before .before
-          .before .before .κs) 1 ps xs (dens (c .before .before .before .before .before .before .before .before .before .before .before
-          .before .before .before .before .before .before .before .before .before .κs) (c .before .before .before .before .before
-          .before .before .before .before .before .before .before .before .before .before .before .before .before .before .before
-          .args)) (m97 (c .before) (c .w .given) .1)))
+          .before .before .before .args)) (m97 (c .before) (c .work .given) .1)))
 
       abbrev pub m98 : (before : After-slice-known7) → (given : s87 .gives (m64 (before .before) (before .slice-known7 .given))) →
           Typed.Mo T124
@@ -5702,41 +5703,41 @@ module _ (claims· : Claims) where
       m100 = λ before given. s120 (m99 before given)
 
       abbrev pub Need-same-length-6 : Type 0
-      Need-same-length-6 = (c : After-w2) → MutSlice.SameLen (Row.get 1 (T126 .locals) (m100 (c .before) (c .w2 .given))) (dens (c
+      Need-same-length-6 = (c : After-work2) → MutSlice.SameLen (Row.get 1 (T126 .locals) (m100 (c .before) (c .work2 .given))) (dens (c
           .before .before .before .before .before .before .before .before .before .before .before .before .before .before .before
           .before .before .before .before .before .before .κs) (c .before .before .before .before .before .before .before .before
           .before .before .before .before .before .before .before .before .before .before .before .before .before .args) .0)
 
       abbrev pub Need-same-length-7 : Type 0
-      Need-same-length-7 = (c : After-w2) → MutSlice.SameLen (Row.get 2 (T126 .locals) (m100 (c .before) (c .w2 .given))) (dens (c
+      Need-same-length-7 = (c : After-work2) → MutSlice.SameLen (Row.get 2 (T126 .locals) (m100 (c .before) (c .work2 .given))) (dens (c
           .before .before .before .before .before .before .before .before .before .before .before .before .before .before .before
           .before .before .before .before .before .before .κs) (c .before .before .before .before .before .before .before .before
           .before .before .before .before .before .before .before .before .before .before .before .before .before .args) .1 .0)
 
       abbrev pub Need-same-length-8 : Type 0
-      Need-same-length-8 = (c : After-w2) → MutSlice.SameLen (Row.get 3 (T126 .locals) (m100 (c .before) (c .w2 .given))) (dens (c
+      Need-same-length-8 = (c : After-work2) → MutSlice.SameLen (Row.get 3 (T126 .locals) (m100 (c .before) (c .work2 .given))) (dens (c
           .before .before .before .before .before .before .before .before .before .before .before .before .before .before .before
           .before .before .before .before .before .before .κs) (c .before .before .before .before .before .before .before .before
           .before .before .before .before .before .before .before .before .before .before .before .before .before .args) .1 .1 .0)
 
       abbrev pub Need-returns-4 : Type 0
-      Need-returns-4 = (c : After-w2) → Post· (c .before .before .before .before .before .before .before .before .before .before .before
-          .before .before .before .before .before .before .before .before .before .before .κs) (dens (c .before .before .before .before
+      Need-returns-4 = (c : After-work2) → Post· (c .before .before .before .before .before .before .before .before .before .before
+          .before .before .before .before .before .before .before .before .before .before .before .κs) (dens (c .before .before .before
           .before .before .before .before .before .before .before .before .before .before .before .before .before .before .before
-          .before .before .κs) (c .before .before .before .before .before .before .before .before .before .before .before .before
-          .before .before .before .before .before .before .before .before .before .args)) (Function.resV r (c .before .before .before
+          .before .before .before .κs) (c .before .before .before .before .before .before .before .before .before .before .before
+          .before .before .before .before .before .before .before .before .before .before .args)) (Function.resV r (c .before .before
           .before .before .before .before .before .before .before .before .before .before .before .before .before .before .before
-          .before .before .before .κs) (m100 (c .before) (c .w2 .given) .0)) (Clauses.atExit (Kinds.endedOf 4 ps r) (c .before .before
+          .before .before .before .before .κs) (m100 (c .before) (c .work2 .given) .0)) (Clauses.atExit (Kinds.endedOf 4 ps r) (c
           .before .before .before .before .before .before .before .before .before .before .before .before .before .before .before
-          .before .before .before .before .κs) (dens (c .before .before .before .before .before .before .before .before .before .before
-          .before .before .before .before .before .before .before .before .before .before .before .κs) (c .before .before .before
+          .before .before .before .before .before .before .κs) (dens (c .before .before .before .before .before .before .before .before
+          .before .before .before .before .before .before .before .before .before .before .before .before .before .κs) (c .before
           .before .before .before .before .before .before .before .before .before .before .before .before .before .before .before
-          .before .before .before .args)) (Enter.lastsP (c .before .before .before .before .before .before .before .before .before
-          .before .before .before .before .before .before .before .before .before .before .before .before .κs) 1 ps xs (dens (c .before
-          .before .before .before .before .before .before .before .before .before .before .before .before .before .before .before
-          .before .before .before .before .before .κs) (c .before .before .before .before .before .before .before .before .before
-          .before .before .before .before .before .before .before .before .before .before .before .before .args)) (m100 (c .before) (c
-          .w2 .given) .1)))
+          .before .before .before .before .before .args)) (Enter.lastsP (c .before .before .before .before .before .before .before
+          .before .before .before .before .before .before .before .before .before .before .before .before .before .before .κs) 1 ps xs
+          (dens (c .before .before .before .before .before .before .before .before .before .before .before .before .before .before
+          .before .before .before .before .before .before .before .κs) (c .before .before .before .before .before .before .before
+          .before .before .before .before .before .before .before .before .before .before .before .before .before .before .args)) (m100
+          (c .before) (c .work2 .given) .1)))
 
       abbrev pub m101 : (before : After-slice-known9) → (given : s112 .gives (m80 (before .before) (before .slice-known9 .given))) →
           Typed.Mo T124
@@ -5751,41 +5752,41 @@ module _ (claims· : Claims) where
       m103 = λ before given. s120 (m102 before given)
 
       abbrev pub Need-same-length-9 : Type 0
-      Need-same-length-9 = (c : After-w3) → MutSlice.SameLen (Row.get 1 (T126 .locals) (m103 (c .before) (c .w3 .given))) (dens (c
+      Need-same-length-9 = (c : After-work3) → MutSlice.SameLen (Row.get 1 (T126 .locals) (m103 (c .before) (c .work3 .given))) (dens (c
           .before .before .before .before .before .before .before .before .before .before .before .before .before .before .before
           .before .before .before .before .before .before .κs) (c .before .before .before .before .before .before .before .before
           .before .before .before .before .before .before .before .before .before .before .before .before .before .args) .0)
 
       abbrev pub Need-same-length-10 : Type 0
-      Need-same-length-10 = (c : After-w3) → MutSlice.SameLen (Row.get 2 (T126 .locals) (m103 (c .before) (c .w3 .given))) (dens (c
-          .before .before .before .before .before .before .before .before .before .before .before .before .before .before .before
+      Need-same-length-10 = (c : After-work3) → MutSlice.SameLen (Row.get 2 (T126 .locals) (m103 (c .before) (c .work3 .given))) (dens
+          (c .before .before .before .before .before .before .before .before .before .before .before .before .before .before .before
           .before .before .before .before .before .before .κs) (c .before .before .before .before .before .before .before .before
           .before .before .before .before .before .before .before .before .before .before .before .before .before .args) .1 .0)
 
       abbrev pub Need-same-length-11 : Type 0
-      Need-same-length-11 = (c : After-w3) → MutSlice.SameLen (Row.get 3 (T126 .locals) (m103 (c .before) (c .w3 .given))) (dens (c
-          .before .before .before .before .before .before .before .before .before .before .before .before .before .before .before
+      Need-same-length-11 = (c : After-work3) → MutSlice.SameLen (Row.get 3 (T126 .locals) (m103 (c .before) (c .work3 .given))) (dens
+          (c .before .before .before .before .before .before .before .before .before .before .before .before .before .before .before
           .before .before .before .before .before .before .κs) (c .before .before .before .before .before .before .before .before
           .before .before .before .before .before .before .before .before .before .before .before .before .before .args) .1 .1 .0)
 
       abbrev pub Need-returns-5 : Type 0
-      Need-returns-5 = (c : After-w3) → Post· (c .before .before .before .before .before .before .before .before .before .before .before
-          .before .before .before .before .before .before .before .before .before .before .κs) (dens (c .before .before .before .before
+      Need-returns-5 = (c : After-work3) → Post· (c .before .before .before .before .before .before .before .before .before .before
+          .before .before .before .before .before .before .before .before .before .before .before .κs) (dens (c .before .before .before
           .before .before .before .before .before .before .before .before .before .before .before .before .before .before .before
-          .before .before .κs) (c .before .before .before .before .before .before .before .before .before .before .before .before
-          .before .before .before .before .before .before .before .before .before .args)) (Function.resV r (c .before .before .before
+          .before .before .before .κs) (c .before .before .before .before .before .before .before .before .before .before .before
+          .before .before .before .before .before .before .before .before .before .before .args)) (Function.resV r (c .before .before
           .before .before .before .before .before .before .before .before .before .before .before .before .before .before .before
-          .before .before .before .κs) (m103 (c .before) (c .w3 .given) .0)) (Clauses.atExit (Kinds.endedOf 4 ps r) (c .before .before
+          .before .before .before .before .κs) (m103 (c .before) (c .work3 .given) .0)) (Clauses.atExit (Kinds.endedOf 4 ps r) (c
           .before .before .before .before .before .before .before .before .before .before .before .before .before .before .before
-          .before .before .before .before .κs) (dens (c .before .before .before .before .before .before .before .before .before .before
-          .before .before .before .before .before .before .before .before .before .before .before .κs) (c .before .before .before
+          .before .before .before .before .before .before .κs) (dens (c .before .before .before .before .before .before .before .before
+          .before .before .before .before .before .before .before .before .before .before .before .before .before .κs) (c .before
           .before .before .before .before .before .before .before .before .before .before .before .before .before .before .before
-          .before .before .before .args)) (Enter.lastsP (c .before .before .before .before .before .before .before .before .before
-          .before .before .before .before .before .before .before .before .before .before .before .before .κs) 1 ps xs (dens (c .before
-          .before .before .before .before .before .before .before .before .before .before .before .before .before .before .before
-          .before .before .before .before .before .κs) (c .before .before .before .before .before .before .before .before .before
-          .before .before .before .before .before .before .before .before .before .before .before .before .args)) (m103 (c .before) (c
-          .w3 .given) .1)))
+          .before .before .before .before .before .args)) (Enter.lastsP (c .before .before .before .before .before .before .before
+          .before .before .before .before .before .before .before .before .before .before .before .before .before .before .κs) 1 ps xs
+          (dens (c .before .before .before .before .before .before .before .before .before .before .before .before .before .before
+          .before .before .before .before .before .before .before .κs) (c .before .before .before .before .before .before .before
+          .before .before .before .before .before .before .before .before .before .before .before .before .before .before .args)) (m103
+          (c .before) (c .work3 .given) .1)))
 
       module _ (returns : Need-returns) (counted-requires : Need-counted-requires) (kind-requires : Need-kind-requires) (close-requires
           : Need-close-requires) (right-and-requires : Need-right-and-requires) (right-impl-requires : Need-right-impl-requires)
@@ -5794,107 +5795,105 @@ module _ (claims· : Claims) where
           (returns-3 : Need-returns-3) (same-length-6 : Need-same-length-6) (same-length-7 : Need-same-length-7) (same-length-8 :
           Need-same-length-8) (returns-4 : Need-returns-4) (same-length-9 : Need-same-length-9) (same-length-10 : Need-same-length-10)
           (same-length-11 : Need-same-length-11) (returns-5 : Need-returns-5) where
-        lay20 : (c : After-w3) → at62 (W0 (c .before .before .before .before .before .before .before .before .before .before .before
+        lay20 : (c : After-work3) → at62 (W0 (c .before .before .before .before .before .before .before .before .before .before .before
             .before .before .before .before .before .before .before .before .before .before .κs) (c .before .before .before .before
             .before .before .before .before .before .before .before .before .before .before .before .before .before .before .before
-            .before .before .args)) (m91 (c .before) (c .w3 .given))
+            .before .before .args)) (m91 (c .before) (c .work3 .given))
         lay20 = λ c. (
           (
-            MutSlice.fix-len (Row.get 1 (T126 .locals) (m103 (c .before) (c .w3 .given)) .ptr) (Row.get 1 (T126 .locals)
-                (m103 (c .before) (c .w3 .given)) .name) (Row.get 1 (T126 .locals) (m103 (c .before) (c .w3 .given)) .now) (dens (c .before
+            MutSlice.fix-len (Row.get 1 (T126 .locals) (m103 (c .before) (c .work3 .given)) .ptr) (Row.get 1 (T126 .locals)
+                (m103 (c .before) (c .work3 .given)) .name) (Row.get 1 (T126 .locals) (m103 (c .before) (c .work3 .given)) .now) (dens (c
                 .before .before .before .before .before .before .before .before .before .before .before .before .before .before .before
-                .before .before .before .before .before .κs) (c .before .before .before .before .before .before .before .before .before
-                .before .before .before .before .before .before .before .before .before .before .before .before .args) .0 .now)
-                (same-length-9 record { before = c .before; w3 = c .w3 }),
+                .before .before .before .before .before .before .κs) (c .before .before .before .before .before .before .before .before
+                .before .before .before .before .before .before .before .before .before .before .before .before .before .args) .0 .now)
+                (same-length-9 record { before = c .before; work3 = c .work3 }),
             (
-              MutSlice.fix-len (Row.get 2 (T126 .locals) (m103 (c .before) (c
-                  .w3 .given)) .ptr) (Row.get 2 (T126 .locals) (m103 (c .before) (c .w3 .given)) .name) (Row.get 2 (T126 .locals) (m103 (c
-                  .before) (c .w3 .given)) .now) (dens (c .before .before .before .before .before .before .before .before .before .before
-                  .before .before .before .before .before .before .before .before .before .before .before .κs) (c .before .before .before
+              MutSlice.fix-len (Row.get 2 (T126 .locals) (m103 (c
+                  .before) (c .work3 .given)) .ptr) (Row.get 2 (T126 .locals) (m103 (c .before) (c .work3 .given)) .name) (Row.get 2 (T126
+                  .locals) (m103 (c .before) (c .work3 .given)) .now) (dens (c .before .before .before .before .before .before .before .before
+                  .before .before .before .before .before .before .before .before .before .before .before .before .before .κs) (c .before
                   .before .before .before .before .before .before .before .before .before .before .before .before .before .before .before
-                  .before .before .before .args) .1 .0 .now) (same-length-10 record { before = c .before; w3 = c .w3 }),
+                  .before .before .before .before .before .args) .1 .0 .now) (same-length-10 record { before = c .before; work3 = c .work3 }),
               (
-                MutSlice.fix-len
-                    (Row.get 3 (T126 .locals) (m103 (c .before) (c .w3 .given)) .ptr) (Row.get 3 (T126 .locals) (m103 (c .before) (c .w3
-                    .given)) .name) (Row.get 3 (T126 .locals) (m103 (c .before) (c .w3 .given)) .now) (dens (c .before .before .before .before
+                MutSlice.fix-len (Row.get 3 (T126 .locals) (m103 (c .before) (c .work3 .given)) .ptr) (Row.get 3 (T126 .locals) (m103 (c
+                    .before) (c .work3 .given)) .name) (Row.get 3 (T126 .locals) (m103 (c .before) (c .work3 .given)) .now) (dens (c .before
                     .before .before .before .before .before .before .before .before .before .before .before .before .before .before .before
-                    .before .before .κs) (c .before .before .before .before .before .before .before .before .before .before .before .before
-                    .before .before .before .before .before .before .before .before .before .args) .1 .1 .0 .now) (same-length-11 record
-                    { before = c .before; w3 = c .w3 }),
+                    .before .before .before .before .before .κs) (c .before .before .before .before .before .before .before .before .before
+                    .before .before .before .before .before .before .before .before .before .before .before .before .args) .1 .1 .0 .now)
+                    (same-length-11 record { before = c .before; work3 = c .work3 }),
                 (Path'.refl, (tt, (tt, (tt, tt)))),
               ),
             ),
           ),
           returns-5 record
-              { before = c .before; w3 = c .w3 },
+              { before = c .before; work3 = c .work3 },
         )
 
-        lay19 : (c : After-w2) → at62 (W0 (c .before .before .before .before .before .before .before .before .before .before .before
+        lay19 : (c : After-work2) → at62 (W0 (c .before .before .before .before .before .before .before .before .before .before .before
             .before .before .before .before .before .before .before .before .before .before .κs) (c .before .before .before .before
             .before .before .before .before .before .before .before .before .before .before .before .before .before .before .before
-            .before .before .args)) (m89 (c .before) (c .w2 .given))
+            .before .before .args)) (m89 (c .before) (c .work2 .given))
         lay19 = λ c. (
           (
-            MutSlice.fix-len (Row.get 1 (T126 .locals) (m100 (c .before) (c .w2 .given)) .ptr) (Row.get 1 (T126 .locals)
-                (m100 (c .before) (c .w2 .given)) .name) (Row.get 1 (T126 .locals) (m100 (c .before) (c .w2 .given)) .now) (dens (c .before
+            MutSlice.fix-len (Row.get 1 (T126 .locals) (m100 (c .before) (c .work2 .given)) .ptr) (Row.get 1 (T126 .locals)
+                (m100 (c .before) (c .work2 .given)) .name) (Row.get 1 (T126 .locals) (m100 (c .before) (c .work2 .given)) .now) (dens (c
                 .before .before .before .before .before .before .before .before .before .before .before .before .before .before .before
-                .before .before .before .before .before .κs) (c .before .before .before .before .before .before .before .before .before
-                .before .before .before .before .before .before .before .before .before .before .before .before .args) .0 .now)
-                (same-length-6 record { before = c .before; w2 = c .w2 }),
+                .before .before .before .before .before .before .κs) (c .before .before .before .before .before .before .before .before
+                .before .before .before .before .before .before .before .before .before .before .before .before .before .args) .0 .now)
+                (same-length-6 record { before = c .before; work2 = c .work2 }),
             (
-              MutSlice.fix-len (Row.get 2 (T126 .locals) (m100 (c .before) (c
-                  .w2 .given)) .ptr) (Row.get 2 (T126 .locals) (m100 (c .before) (c .w2 .given)) .name) (Row.get 2 (T126 .locals) (m100 (c
-                  .before) (c .w2 .given)) .now) (dens (c .before .before .before .before .before .before .before .before .before .before
-                  .before .before .before .before .before .before .before .before .before .before .before .κs) (c .before .before .before
+              MutSlice.fix-len (Row.get 2 (T126 .locals) (m100 (c
+                  .before) (c .work2 .given)) .ptr) (Row.get 2 (T126 .locals) (m100 (c .before) (c .work2 .given)) .name) (Row.get 2 (T126
+                  .locals) (m100 (c .before) (c .work2 .given)) .now) (dens (c .before .before .before .before .before .before .before .before
+                  .before .before .before .before .before .before .before .before .before .before .before .before .before .κs) (c .before
                   .before .before .before .before .before .before .before .before .before .before .before .before .before .before .before
-                  .before .before .before .args) .1 .0 .now) (same-length-7 record { before = c .before; w2 = c .w2 }),
+                  .before .before .before .before .before .args) .1 .0 .now) (same-length-7 record { before = c .before; work2 = c .work2 }),
               (
-                MutSlice.fix-len
-                    (Row.get 3 (T126 .locals) (m100 (c .before) (c .w2 .given)) .ptr) (Row.get 3 (T126 .locals) (m100 (c .before) (c .w2
-                    .given)) .name) (Row.get 3 (T126 .locals) (m100 (c .before) (c .w2 .given)) .now) (dens (c .before .before .before .before
+                MutSlice.fix-len (Row.get 3 (T126 .locals) (m100 (c .before) (c .work2 .given)) .ptr) (Row.get 3 (T126 .locals) (m100 (c
+                    .before) (c .work2 .given)) .name) (Row.get 3 (T126 .locals) (m100 (c .before) (c .work2 .given)) .now) (dens (c .before
                     .before .before .before .before .before .before .before .before .before .before .before .before .before .before .before
-                    .before .before .κs) (c .before .before .before .before .before .before .before .before .before .before .before .before
-                    .before .before .before .before .before .before .before .before .before .args) .1 .1 .0 .now) (same-length-8 record
-                    { before = c .before; w2 = c .w2 }),
+                    .before .before .before .before .before .κs) (c .before .before .before .before .before .before .before .before .before
+                    .before .before .before .before .before .before .before .before .before .before .before .before .args) .1 .1 .0 .now)
+                    (same-length-8 record { before = c .before; work2 = c .work2 }),
                 (Path'.refl, (tt, (tt, (tt, tt)))),
               ),
             ),
           ),
           returns-4 record
-              { before = c .before; w2 = c .w2 },
+              { before = c .before; work2 = c .work2 },
         )
 
-        lay18 : (c : After-w) → at62 (W0 (c .before .before .before .before .before .before .before .before .before .before .before
+        lay18 : (c : After-work) → at62 (W0 (c .before .before .before .before .before .before .before .before .before .before .before
             .before .before .before .before .before .before .before .before .before .κs) (c .before .before .before .before .before
             .before .before .before .before .before .before .before .before .before .before .before .before .before .before .before
-            .args)) (m87 (c .before) (c .w .given))
+            .args)) (m87 (c .before) (c .work .given))
         lay18 = λ c. (
           (
-            MutSlice.fix-len (Row.get 1 (T126 .locals) (m97 (c .before) (c .w .given)) .ptr) (Row.get 1 (T126 .locals) (m97
-                (c .before) (c .w .given)) .name) (Row.get 1 (T126 .locals) (m97 (c .before) (c .w .given)) .now) (dens (c .before .before
+            MutSlice.fix-len (Row.get 1 (T126 .locals) (m97 (c .before) (c .work .given)) .ptr) (Row.get 1 (T126 .locals)
+                (m97 (c .before) (c .work .given)) .name) (Row.get 1 (T126 .locals) (m97 (c .before) (c .work .given)) .now) (dens (c
                 .before .before .before .before .before .before .before .before .before .before .before .before .before .before .before
-                .before .before .before .κs) (c .before .before .before .before .before .before .before .before .before .before .before
-                .before .before .before .before .before .before .before .before .before .args) .0 .now) (same-length-3 record
-                { before = c .before; w = c .w }),
+                .before .before .before .before .before .κs) (c .before .before .before .before .before .before .before .before .before
+                .before .before .before .before .before .before .before .before .before .before .before .args) .0 .now) (same-length-3
+                record { before = c .before; work = c .work }),
             (
-              MutSlice.fix-len (Row.get 2 (T126 .locals) (m97 (c .before) (c .w .given)) .ptr)
-                  (Row.get 2 (T126 .locals) (m97 (c .before) (c .w .given)) .name) (Row.get 2 (T126 .locals) (m97 (c .before) (c .w .given))
-                  .now) (dens (c .before .before .before .before .before .before .before .before .before .before .before .before .before
-                  .before .before .before .before .before .before .before .κs) (c .before .before .before .before .before .before .before
-                  .before .before .before .before .before .before .before .before .before .before .before .before .before .args) .1 .0 .now)
-                  (same-length-4 record { before = c .before; w = c .w }),
+              MutSlice.fix-len (Row.get 2 (T126 .locals) (m97 (c .before) (c .work
+                  .given)) .ptr) (Row.get 2 (T126 .locals) (m97 (c .before) (c .work .given)) .name) (Row.get 2 (T126 .locals) (m97 (c
+                  .before) (c .work .given)) .now) (dens (c .before .before .before .before .before .before .before .before .before .before
+                  .before .before .before .before .before .before .before .before .before .before .κs) (c .before .before .before .before
+                  .before .before .before .before .before .before .before .before .before .before .before .before .before .before .before
+                  .before .args) .1 .0 .now) (same-length-4 record { before = c .before; work = c .work }),
               (
-                MutSlice.fix-len (Row.get 3 (T126 .locals) (m97 (c .before) (c .w
-                    .given)) .ptr) (Row.get 3 (T126 .locals) (m97 (c .before) (c .w .given)) .name) (Row.get 3 (T126 .locals) (m97 (c .before)
-                    (c .w .given)) .now) (dens (c .before .before .before .before .before .before .before .before .before .before .before
-                    .before .before .before .before .before .before .before .before .before .κs) (c .before .before .before .before .before
+                MutSlice.fix-len (Row.get 3 (T126
+                    .locals) (m97 (c .before) (c .work .given)) .ptr) (Row.get 3 (T126 .locals) (m97 (c .before) (c .work .given)) .name)
+                    (Row.get 3 (T126 .locals) (m97 (c .before) (c .work .given)) .now) (dens (c .before .before .before .before .before .before
+                    .before .before .before .before .before .before .before .before .before .before .before .before .before .before .κs) (c
                     .before .before .before .before .before .before .before .before .before .before .before .before .before .before .before
-                    .args) .1 .1 .0 .now) (same-length-5 record { before = c .before; w = c .w }),
+                    .before .before .before .before .before .args) .1 .1 .0 .now) (same-length-5 record { before = c .before; work = c .work }),
                 (Path'.refl, (tt, (tt, (tt, tt)))),
               ),
             ),
           ),
-          returns-3 record { before = c .before; w = c .w },
+          returns-3 record { before = c .before; work = c .work },
         )
 
         lay17 : (c : After-slice-known3) → at62 (W0 (c .before .before .before .before .before .before .before .before .before .before
@@ -5919,28 +5918,28 @@ module _ (claims· : Claims) where
           returns-2 record { before = c .before; slice-known3 = c .slice-known3 },
         )
 
-        lay16 : (c : After-w3) → at54 (W2 (c .before .before .before .before .before .before .before .before .before .before .before
+        lay16 : (c : After-work3) → at54 (W2 (c .before .before .before .before .before .before .before .before .before .before .before
             .before .before) (After-kind·gave (c .before .before .before .before .before .before .before .before .before .before .before
-            .before))) (m85 (c .before) (c .w3 .given))
-        lay16 = λ c. lay20 record { before = c .before; w3 = c .w3 }
+            .before))) (m85 (c .before) (c .work3 .given))
+        lay16 = λ c. lay20 record { before = c .before; work3 = c .work3 }
 
-        lay15 : (c : After-w2) → at54 (W2 (c .before .before .before .before .before .before .before .before .before .before .before
+        lay15 : (c : After-work2) → at54 (W2 (c .before .before .before .before .before .before .before .before .before .before .before
             .before .before) (After-kind·gave (c .before .before .before .before .before .before .before .before .before .before .before
-            .before))) (m83 (c .before) (c .w2 .given))
-        lay15 = λ c. lay19 record { before = c .before; w2 = c .w2 }
+            .before))) (m83 (c .before) (c .work2 .given))
+        lay15 = λ c. lay19 record { before = c .before; work2 = c .work2 }
 
-        lay14 : (c : After-w) → at54 (W2 (c .before .before .before .before .before .before .before .before .before .before .before
+        lay14 : (c : After-work) → at54 (W2 (c .before .before .before .before .before .before .before .before .before .before .before
             .before) (After-kind·gave (c .before .before .before .before .before .before .before .before .before .before .before))) (m47
-            (c .before) (c .w .given))
-        lay14 = λ c. lay18 record { before = c .before; w = c .w }
+            (c .before) (c .work .given))
+        lay14 = λ c. lay18 record { before = c .before; work = c .work }
 
-        lay13 : (c : After-w3) → at49 (W3 (c .before .before .before .before .before .before .before .before .before .before .before
-            .before)) (m81 (c .before) (c .w3 .given))
-        lay13 = λ c. lay16 record { before = c .before; w3 = c .w3 }
+        lay13 : (c : After-work3) → at49 (W3 (c .before .before .before .before .before .before .before .before .before .before .before
+            .before)) (m81 (c .before) (c .work3 .given))
+        lay13 = λ c. lay16 record { before = c .before; work3 = c .work3 }
 
-        lay12 : (c : After-w2) → at49 (W3 (c .before .before .before .before .before .before .before .before .before .before .before
-            .before)) (m65 (c .before) (c .w2 .given))
-        lay12 = λ c. lay15 record { before = c .before; w2 = c .w2 }
+        lay12 : (c : After-work2) → at49 (W3 (c .before .before .before .before .before .before .before .before .before .before .before
+            .before)) (m65 (c .before) (c .work2 .given))
+        lay12 = λ c. lay15 record { before = c .before; work2 = c .work2 }
 
         lay11 : (c : Else4) → at47 (W4 (c .before .before)) (m49 (c .before .before))
         lay11 = λ c. λ g. (
@@ -6006,16 +6005,16 @@ module _ (claims· : Claims) where
                                         record { given = g' };
                                   } g'') g'3;
                                 };
-                                f3 = record { given = g'4 };
+                                words3 = record { given = g'4 };
                               };
                               slice-known8 = record { given = g'5 };
                             };
-                            t4 = record
-                                { given = g'6 };
+                            terms4 =
+                                record { given = g'6 };
                           };
                           slice-known9 = record { given = g'7 };
                         };
-                        w3 = record { given = g'8 };
+                        work3 = record { given = g'8 };
                       },
                     ),
                   ),
@@ -6090,16 +6089,16 @@ module _ (claims· : Claims) where
                                             right-impl-arg2 = record { given = g' };
                                           } g'') g'3;
                                         };
-                                    f2 = record { given = g'4 };
+                                    words2 = record { given = g'4 };
                                   };
                                   slice-known6 = record
                                       { given = g'5 };
                                 };
-                                t3 = record { given = g'6 };
+                                terms3 = record { given = g'6 };
                               };
                               slice-known7 = record { given = g'7 };
                             };
-                            w2 = record
+                            work2 = record
                                 { given = g'8 };
                           },
                         ),
@@ -6193,15 +6192,17 @@ module _ (claims· : Claims) where
                                             right-and-arg2 = record { given = g' };
                                           } g'') g'3;
                                         };
-                                    f = record { given = g'4 };
+                                    words = record { given = g'4 };
                                   };
-                                  slice-known4 = record { given = g'5 };
+                                  slice-known4 = record
+                                      { given = g'5 };
                                 };
-                                t2 = record { given = g'6 };
+                                terms2 = record { given = g'6 };
                               };
                               slice-known5 = record { given = g'7 };
                             };
-                            w = record { given = g'8 };
+                            work = record
+                                { given = g'8 };
                           },
                         ),
                   ),
@@ -6259,7 +6260,7 @@ module _ (claims· : Claims) where
                             ) (m24 record
                             { before = c .before; if2 = c .if2 } g) g';
                       };
-                      t = record { given = g'' };
+                      terms = record { given = g'' };
                     };
                     slice-known3 = record { given = g'3 };
                   },
@@ -6353,8 +6354,8 @@ module _ (claims· : Claims) where
                     shared-slice-known = record { given = g'' };
                   };
                   struct-known = record { given = g'3 };
-                } g'4)) .0) (State.struct .as-values  -- told apart: 3.
-                    (Row.get 6 (T6 .locals) (m5 record {  -- told apart: 4.
+                } g'4)) .0) (State.struct .as-values
+                    (Row.get 6 (T6 .locals) (m5 record {
                       before = record {
                         before = record
                             { before = record { before = c; slice-known = record { given = g } }; slice-known2 = record { given = g' } };
@@ -6406,23 +6407,24 @@ module _ (claims· : Claims) where
           asked = λ a good pre bs. laid record {
             κs = κs;
             args = record {
-              f = a .0;
-              t = a .1 .0;
-              w = a .1 .1 .0;
-              k = a .1 .1 .1 .0;
-              m =
-                  a .1 .1 .1 .1 .0;
-              st = a .1 .1 .1 .1 .1 .0;
-              q = a .1 .1 .1 .1 .1 .1 .0;
+              words = a .0;
+              terms = a .1 .0;
+              work = a .1 .1 .0;
+              names = a .1
+                  .1 .1 .0;
+              limits = a .1 .1 .1 .1 .0;
+              state = a .1 .1 .1 .1 .1 .0;
+              sequent = a .1 .1 .1 .1 .1 .1 .0;
             };
             good = good;
-            pre = pre;
+            pre =
+                pre;
           }
 
         module _ {M : Type 1} (𝓤 : URA.URA M) (H : Wp.Heap 𝓤) (A : Atoms.Atoms 𝓤) (W : Kit.Given 𝓤 H A) (𝓣 : Wp.Tables 𝓤 H) (known0 :
-            Plain.Known 𝓤 H A W 𝓣 0 ps·0 r·0 (claims· .0) (claims· .1) "context::counted") (known1 : Plain.Known 𝓤 H A W 𝓣 1 ps·1 r·1
+            Plain.Known 𝓤 H A W 𝓣 0 ps·0 r·0 (claims· .0) (claims· .1) "meter::counted") (known1 : Plain.Known 𝓤 H A W 𝓣 1 ps·1 r·1
             (claims· .2) (claims· .3) "formula::kind") (known2 : Plain.Known 𝓤 H A W 𝓣 1 ps·2 r·2 (claims· .4) (claims· .5)
-            "rules::close") (known3 : Plain.Known 𝓤 H A W 𝓣 4 ps·3 r·3 (claims· .6) (claims· .7) "prove::right_and") (known4 :
+            "search_left::close") (known3 : Plain.Known 𝓤 H A W 𝓣 4 ps·3 r·3 (claims· .6) (claims· .7) "prove::right_and") (known4 :
             Plain.Known 𝓤 H A W 𝓣 4 ps·4 r·4 (claims· .8) (claims· .9) "prove::right_impl") (known5 : Plain.Known 𝓤 H A W 𝓣 4 ps·5 r·5
             (claims· .10) (claims· .11) "prove::left") where
           pub spec : Statement.Triple 𝓤 (Wp.WpFn 𝓤 H (𝓣 .C) (𝓣 .Λ) (Function.fnOf 4 ps r xs m hs body)) (Function.plainOf 𝓤 H A 4 ps r

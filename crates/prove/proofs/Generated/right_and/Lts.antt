@@ -1,14 +1,14 @@
 -- Made by tools/records.py from the sources; antt refuses it where it is stale. Assumes nothing.
 use Prim.Native.Nat
-use Rattle.context.proofs.Answer
-use Rattle.context.proofs.Answer.Laws
 use Rattle.context.proofs.Element
-use Rattle.context.proofs.Limits
-use Rattle.context.proofs.Limits.Laws as Laws'
-use Rattle.context.proofs.Sequent
-use Rattle.context.proofs.Sequent.Laws as Laws''
-use Rattle.context.proofs.State
-use Rattle.context.proofs.State.Laws as Laws'3
+use Rattle.meter.proofs.Answer
+use Rattle.meter.proofs.Answer.Laws
+use Rattle.meter.proofs.Limits
+use Rattle.meter.proofs.Limits.Laws as Laws'
+use Rattle.meter.proofs.Sequent
+use Rattle.meter.proofs.Sequent.Laws as Laws''
+use Rattle.meter.proofs.State
+use Rattle.meter.proofs.State.Laws as Laws'3
 use borrow.Author.Called
 use borrow.Enum.Known
 use borrow.Enum.Make
@@ -75,8 +75,8 @@ abbrev y0 : Syntax.Ty
 y0 = Syntax.tyInt Syntax.w64
 
 abbrev y1 : Syntax.Ty
-y1 = Syntax.tyStruct (99 ∷ 111 ∷ 110 ∷ 116 ∷ 101 ∷ 120 ∷ 116 ∷ 58 ∷ 58 ∷ 83 ∷ 116 ∷ 97 ∷ 116 ∷ 101 ∷ []) (Syntax.tcons y0 (Syntax.tcons
-    y0 (Syntax.tcons y0 (Syntax.tcons y0 Syntax.tnil))))
+y1 = Syntax.tyStruct (109 ∷ 101 ∷ 116 ∷ 101 ∷ 114 ∷ 58 ∷ 58 ∷ 83 ∷ 116 ∷ 97 ∷ 116 ∷ 101 ∷ []) (Syntax.tcons y0 (Syntax.tcons y0
+    (Syntax.tcons y0 (Syntax.tcons y0 Syntax.tnil))))
 
 abbrev y2 : Syntax.Ty
 y2 = Syntax.tyInt Syntax.w32
@@ -88,9 +88,9 @@ abbrev y4 : Syntax.Ty
 y4 = Syntax.tyStruct (38 ∷ 91 ∷ 93 ∷ []) (Syntax.tcons y3 (Syntax.tcons y0 Syntax.tnil))
 
 abbrev y5 : Syntax.Ty
-y5 = Syntax.tyEnum (99 ∷ 111 ∷ 110 ∷ 116 ∷ 101 ∷ 120 ∷ 116 ∷ 58 ∷ 58 ∷ 65 ∷ 110 ∷ 115 ∷ 119 ∷ 101 ∷ 114 ∷ []) (Syntax.ttcons
-    (Syntax.tcons y0 (Syntax.tcons y1 Syntax.tnil)) (Syntax.ttcons (Syntax.tcons y1 Syntax.tnil) (Syntax.ttcons (Syntax.tcons y0
-    (Syntax.tcons y1 Syntax.tnil)) Syntax.ttnil)))
+y5 = Syntax.tyEnum (109 ∷ 101 ∷ 116 ∷ 101 ∷ 114 ∷ 58 ∷ 58 ∷ 65 ∷ 110 ∷ 115 ∷ 119 ∷ 101 ∷ 114 ∷ []) (Syntax.ttcons (Syntax.tcons y0
+    (Syntax.tcons y1 Syntax.tnil)) (Syntax.ttcons (Syntax.tcons y1 Syntax.tnil) (Syntax.ttcons (Syntax.tcons y0 (Syntax.tcons y1
+    Syntax.tnil)) Syntax.ttnil)))
 
 abbrev y6 : Syntax.Ty
 y6 = Syntax.tyRef Syntax.erased Syntax.mut y2
@@ -255,8 +255,8 @@ abbrev y59 : Row.Entry
 y59 = (0, Rows.whole (Declared.row Answer.the-type))
 
 abbrev y60 : Syntax.Ty
-y60 = Syntax.tyStruct (99 ∷ 111 ∷ 110 ∷ 116 ∷ 101 ∷ 120 ∷ 116 ∷ 58 ∷ 58 ∷ 76 ∷ 105 ∷ 109 ∷ 105 ∷ 116 ∷ 115 ∷ []) (Syntax.tcons y0
-    (Syntax.tcons y0 (Syntax.tcons y0 (Syntax.tcons y0 Syntax.tnil))))
+y60 = Syntax.tyStruct (109 ∷ 101 ∷ 116 ∷ 101 ∷ 114 ∷ 58 ∷ 58 ∷ 76 ∷ 105 ∷ 109 ∷ 105 ∷ 116 ∷ 115 ∷ []) (Syntax.tcons y0 (Syntax.tcons y0
+    (Syntax.tcons y0 (Syntax.tcons y0 Syntax.tnil))))
 
 abbrev y61 : Row.Entry
 y61 = (5, Rows.any-gone y60)
@@ -265,7 +265,7 @@ abbrev y62 : Row.Entry
 y62 = (6, Rows.any-gone y1)
 
 abbrev y63 : Syntax.Ty
-y63 = Syntax.tyStruct (99 ∷ 111 ∷ 110 ∷ 116 ∷ 101 ∷ 120 ∷ 116 ∷ 58 ∷ 58 ∷ 83 ∷ 101 ∷ 113 ∷ 117 ∷ 101 ∷ 110 ∷ 116 ∷ []) (Syntax.tcons y0
+y63 = Syntax.tyStruct (109 ∷ 101 ∷ 116 ∷ 101 ∷ 114 ∷ 58 ∷ 58 ∷ 83 ∷ 101 ∷ 113 ∷ 117 ∷ 101 ∷ 110 ∷ 116 ∷ []) (Syntax.tcons y0
     (Syntax.tcons y0 (Syntax.tcons y0 (Syntax.tcons y0 Syntax.tnil))))
 
 abbrev y64 : Row.Entry
@@ -720,9 +720,9 @@ b25 = Syntax.assign (Syntax.place 41 []) (Syntax.aggregate ((Syntax.copy (Syntax
     ((Syntax.field 1) ∷ []))) ∷ []))
 
 abbrev b26 : Syntax.Body
-b26 = Syntax.call "rules::close" ((Syntax.copy (Syntax.place 41 [])) ∷ (Syntax.copy (Syntax.place 5 [])) ∷ (Syntax.copy (Syntax.place 13
-    [])) ∷ (Syntax.int Syntax.w64 1) ∷ (Syntax.copy (Syntax.place 9 [])) ∷ (Syntax.copy (Syntax.place 12 [])) ∷ (Syntax.int Syntax.w64
-    0) ∷ (Syntax.int Syntax.w64 0) ∷ (Syntax.int Syntax.w64 0) ∷ []) (Syntax.place 39 [])
+b26 = Syntax.call "search_left::close" ((Syntax.copy (Syntax.place 41 [])) ∷ (Syntax.copy (Syntax.place 5 [])) ∷ (Syntax.copy
+    (Syntax.place 13 [])) ∷ (Syntax.int Syntax.w64 1) ∷ (Syntax.copy (Syntax.place 9 [])) ∷ (Syntax.copy (Syntax.place 12 [])) ∷
+    (Syntax.int Syntax.w64 0) ∷ (Syntax.int Syntax.w64 0) ∷ (Syntax.int Syntax.w64 0) ∷ []) (Syntax.place 39 [])
 
 abbrev b27 : Syntax.Body
 b27 = Syntax.seq b25 b26
@@ -1864,8 +1864,8 @@ module _ (claims· : Claims) where
       Closed = (𝓤 : URA.URA M) (H : Wp.Heap 𝓤) (A : Atoms.Atoms 𝓤) (W : Kit.Given 𝓤 H A) (𝓣 : Wp.Tables 𝓤 H) (known0 : Plain.Known 𝓤 H A
           W 𝓣 1 ps·0 r·0 (claims· .0) (claims· .1) "formula::left") (known1 : Plain.Known 𝓤 H A W 𝓣 4 ps·1 r·1 (claims· .2) (claims· .3)
           "prove::premise") (known2 : Plain.Known 𝓤 H A W 𝓣 1 ps·2 r·2 (claims· .4) (claims· .5) "formula::right") (known3 : Plain.Known
-          𝓤 H A W 𝓣 1 ps·3 r·3 (claims· .6) (claims· .7) "rules::close") → Statement.Triple 𝓤 (Wp.WpFn 𝓤 H (𝓣 .C) (𝓣 .Λ) (Function.fnOf
-          4 ps r xs m hs body)) (Function.plainOf 𝓤 H A 4 ps r Pre· Post·)
+          𝓤 H A W 𝓣 1 ps·3 r·3 (claims· .6) (claims· .7) "search_left::close") → Statement.Triple 𝓤 (Wp.WpFn 𝓤 H (𝓣 .C) (𝓣 .Λ)
+          (Function.fnOf 4 ps r xs m hs body)) (Function.plainOf 𝓤 H A 4 ps r Pre· Post·)
 
     module _ where
       abbrev at0 : Typed.TF T80 O2
@@ -2224,7 +2224,7 @@ module _ (claims· : Claims) where
         abbrev Knowns : Type 1
         Knowns = Plain.Known 𝓤 H A W 𝓣 1 ps·0 r·0 (claims· .0) (claims· .1) "formula::left" × Plain.Known 𝓤 H A W 𝓣 4 ps·1 r·1 (claims·
             .2) (claims· .3) "prove::premise" × Plain.Known 𝓤 H A W 𝓣 1 ps·2 r·2 (claims· .4) (claims· .5) "formula::right" ×
-            Plain.Known 𝓤 H A W 𝓣 1 ps·3 r·3 (claims· .6) (claims· .7) "rules::close"
+            Plain.Known 𝓤 H A W 𝓣 1 ps·3 r·3 (claims· .6) (claims· .7) "search_left::close"
 
       module _ (κs : Lifetimes.Lfts 4) (qs : Lifetimes.Shares 4) where
         abbrev g4 : List.List Row.Entry
@@ -2915,9 +2915,8 @@ module _ (claims· : Claims) where
               Ψ) (Typed.g-post 𝓤 H A W 𝓣 E G80 G83 G84 b26 (λ Ψ. Typed.both s77 (Typed.pass T81 T82 s78 (Typed.pass T82 T83 s79 Ψ)))
               (Typed.pass T83 T84 s80) (Typed.g-post 𝓤 H A W 𝓣 E G80 G82 G83 b26 (λ Ψ. Typed.both s77 (Typed.pass T81 T82 s78 Ψ))
               (Typed.pass T82 T83 s79) (Typed.g-post 𝓤 H A W 𝓣 E G80 G81 G82 b26 (Typed.both s77) (Typed.pass T81 T82 s78)
-              (Plain.t-call-plain 𝓤 H A W 𝓣 1 ps·3 r·3 (claims· .6) (claims· .7) "rules::close" (known .3) E (λ pos β. β) G80 (
-                record
-                    { pos = 41; ty = Syntax.tyRef Syntax.erased Syntax.mut y8; ref = λ x. x },
+              (Plain.t-call-plain 𝓤 H A W 𝓣 1 ps·3 r·3 (claims· .6) (claims· .7) "search_left::close" (known .3) E (λ pos β. β) G80 (
+                record { pos = 41; ty = Syntax.tyRef Syntax.erased Syntax.mut y8; ref = λ x. x },
                 (
                   record
                       { pos = 5; st = []; d = 0; at = λ x. x },
@@ -4597,31 +4596,32 @@ module _ (claims· : Claims) where
 
       module _ (κs : Lifetimes.Lfts 4) where
         pub record Args : Type 0 where
-          pub f : Kinds.Den {n = 4} κs (MutSlice.pMutS (Referent.rtF (Referent.fInt Syntax.w32)) 0 tt)
-          pub t : Kinds.Den {n = 4} κs (MutSlice.pMutS (Referent.rtF (Referent.fInt Syntax.w16)) 1 tt)
-          pub w : Kinds.Den {n = 4} κs (MutSlice.pMutS Element.row 2 tt)
-          pub k : Kinds.Den {n = 4} κs (ShrSlice.pShrS (Referent.rtF (Referent.fInt Syntax.w8)) 3 tt)
-          pub m : Kinds.Den {n = 4} κs (Value.pVal record {
+          pub words : Kinds.Den {n = 4} κs (MutSlice.pMutS (Referent.rtF (Referent.fInt Syntax.w32)) 0 tt)
+          pub terms : Kinds.Den {n = 4} κs (MutSlice.pMutS (Referent.rtF (Referent.fInt Syntax.w16)) 1 tt)
+          pub work : Kinds.Den {n = 4} κs (MutSlice.pMutS Element.row 2 tt)
+          pub names : Kinds.Den {n = 4} κs (ShrSlice.pShrS (Referent.rtF (Referent.fInt Syntax.w8)) 3 tt)
+          pub limits : Kinds.Den {n = 4} κs (Value.pVal record {
             ty = Declared'.row Limits.the-type;
             one = Path'.refl;
-            val = Laws'5.val
-                Limits.the-type Laws'.the-laws;
+            val =
+                Laws'5.val Limits.the-type Laws'.the-laws;
             tells = Laws'5.tells Limits.the-type Laws'.the-laws;
-            still = Laws'5.still Limits.the-type
-                Laws'.the-copy Exit.yes;
+            still = Laws'5.still
+                Limits.the-type Laws'.the-copy Exit.yes;
             row = Rows.whole (Declared'.row Limits.the-type);
             rd = λ x. x;
             mk = λ x. x;
-          } λ M 𝓤 H A W. record {
-            copies = Laws'5.copy Limits.the-type Laws'.the-copy 𝓤 H A W;
-            lawful = Laws'5.lawful Limits.the-type Laws'.the-laws 𝓤 H A
-                W;
-            makes = Laws'5.makes Limits.the-type Laws'.the-plain 𝓤 H A;
-            in-mem = Local.mem-whole 𝓤 H A W (Declared'.row
-                Limits.the-type);
-            of-mem = Local.whole-mem 𝓤 H A W (Declared'.row Limits.the-type);
-          })
-          pub st : Kinds.Den {n = 4} κs (Value.pVal record {
+          } λ M
+              𝓤 H A W. record {
+                copies = Laws'5.copy Limits.the-type Laws'.the-copy 𝓤 H A W;
+                lawful = Laws'5.lawful Limits.the-type
+                    Laws'.the-laws 𝓤 H A W;
+                makes = Laws'5.makes Limits.the-type Laws'.the-plain 𝓤 H A;
+                in-mem = Local.mem-whole 𝓤 H A W
+                    (Declared'.row Limits.the-type);
+                of-mem = Local.whole-mem 𝓤 H A W (Declared'.row Limits.the-type);
+              })
+          pub state : Kinds.Den {n = 4} κs (Value.pVal record {
             ty = Declared'.row State.the-type;
             one = Path'.refl;
             val = Laws'5.val
@@ -4641,11 +4641,11 @@ module _ (claims· : Claims) where
                 State.the-type);
             of-mem = Local.whole-mem 𝓤 H A W (Declared'.row State.the-type);
           })
-          pub q : Kinds.Den {n = 4} κs (Value.pVal record {
+          pub sequent : Kinds.Den {n = 4} κs (Value.pVal record {
             ty = Declared'.row Sequent.the-type;
             one = Path'.refl;
-            val = Laws'5.val
-                Sequent.the-type Laws''.the-laws;
+            val =
+                Laws'5.val Sequent.the-type Laws''.the-laws;
             tells = Laws'5.tells Sequent.the-type Laws''.the-laws;
             still = Laws'5.still
                 Sequent.the-type Laws''.the-copy Exit.yes;
@@ -4664,7 +4664,7 @@ module _ (claims· : Claims) where
               })
 
         abbrev pub dens : (a : Args) → Kinds.Dens κs ps
-        dens = λ a. (a .f, (a .t, (a .w, (a .k, (a .m, (a .st, (a .q, tt)))))))
+        dens = λ a. (a .words, (a .terms, (a .work, (a .names, (a .limits, (a .state, (a .sequent, tt)))))))
 
       abbrev pub m0 : (κs : Lifetimes.Lfts 4) → (args : Args κs) → Typed.Mo T0
       m0 = λ κs args. (tt, Enter.partsP κs 1 ps xs (dens κs args))
@@ -4893,22 +4893,22 @@ module _ (claims· : Claims) where
       m17 = λ before given. s23 .next (m16 (before .before) (After-premise·gave before)) given
 
       module _ (before· : After-premise) where
-        pub record After-f·own : Type 0 where
+        pub record After-words·own : Type 0 where
           pub given : s23 .gives (m16 (before· .before) (After-premise·gave before·))
 
-      pub record After-f : Type 0 where
+      pub record After-words : Type 0 where
         pub before : After-premise
-        pub f : After-f·own before
+        pub words : After-words·own before
 
-      abbrev pub m18 : (before : After-f) → (given : s24 .gives (m17 (before .before) (before .f .given))) → Typed.Mo T27
-      m18 = λ before given. s24 .next (m17 (before .before) (before .f .given)) given
+      abbrev pub m18 : (before : After-words) → (given : s24 .gives (m17 (before .before) (before .words .given))) → Typed.Mo T27
+      m18 = λ before given. s24 .next (m17 (before .before) (before .words .given)) given
 
-      module _ (before· : After-f) where
+      module _ (before· : After-words) where
         pub record After-slice-known3·own : Type 0 where
-          pub given : s24 .gives (m17 (before· .before) (before· .f .given))
+          pub given : s24 .gives (m17 (before· .before) (before· .words .given))
 
       pub record After-slice-known3 : Type 0 where
-        pub before : After-f
+        pub before : After-words
         pub slice-known3 : After-slice-known3·own before
 
       abbrev pub m19 : (before : After-slice-known3) → (given : s27 .gives (m18 (before .before) (before .slice-known3 .given))) →
@@ -4916,22 +4916,22 @@ module _ (claims· : Claims) where
       m19 = λ before given. s27 .next (m18 (before .before) (before .slice-known3 .given)) given
 
       module _ (before· : After-slice-known3) where
-        pub record After-t·own : Type 0 where
+        pub record After-terms·own : Type 0 where
           pub given : s27 .gives (m18 (before· .before) (before· .slice-known3 .given))
 
-      pub record After-t : Type 0 where
+      pub record After-terms : Type 0 where
         pub before : After-slice-known3
-        pub t : After-t·own before
+        pub terms : After-terms·own before
 
-      abbrev pub m20 : (before : After-t) → (given : s28 .gives (m19 (before .before) (before .t .given))) → Typed.Mo T31
-      m20 = λ before given. s28 .next (m19 (before .before) (before .t .given)) given
+      abbrev pub m20 : (before : After-terms) → (given : s28 .gives (m19 (before .before) (before .terms .given))) → Typed.Mo T31
+      m20 = λ before given. s28 .next (m19 (before .before) (before .terms .given)) given
 
-      module _ (before· : After-t) where
+      module _ (before· : After-terms) where
         pub record After-slice-known4·own : Type 0 where
-          pub given : s28 .gives (m19 (before· .before) (before· .t .given))
+          pub given : s28 .gives (m19 (before· .before) (before· .terms .given))
 
       pub record After-slice-known4 : Type 0 where
-        pub before : After-t
+        pub before : After-terms
         pub slice-known4 : After-slice-known4·own before
 
       abbrev pub m21 : (before : After-slice-known4) → (given : s31 .gives (m20 (before .before) (before .slice-known4 .given))) →
@@ -4939,32 +4939,32 @@ module _ (claims· : Claims) where
       m21 = λ before given. s31 .next (m20 (before .before) (before .slice-known4 .given)) given
 
       module _ (before· : After-slice-known4) where
-        pub record After-w·own : Type 0 where
+        pub record After-work·own : Type 0 where
           pub given : s31 .gives (m20 (before· .before) (before· .slice-known4 .given))
 
-      pub record After-w : Type 0 where
+      pub record After-work : Type 0 where
         pub before : After-slice-known4
-        pub w : After-w·own before
+        pub work : After-work·own before
 
-      module _ (before· : After-w) where
+      module _ (before· : After-work) where
         pub record At-match-keys1·own : Type 0 where
-          pub keys1 : Run.OneOf (0 ∷ []) (Declared.tagOf Answer.the-type (Row.get 22 (T34 .locals) (m21 (before· .before) (before· .w
+          pub keys1 : Run.OneOf (0 ∷ []) (Declared.tagOf Answer.the-type (Row.get 22 (T34 .locals) (m21 (before· .before) (before· .work
               .given))))
 
       pub record At-match-keys1 : Type 0 where
-        pub before : After-w
+        pub before : After-work
         pub match : At-match-keys1·own before
 
       abbrev pub Need-enum-known-i : Type 0
-      Need-enum-known-i = (c : At-match-keys1) → s33 .asks (m21 (c .before .before) (c .before .w .given))
+      Need-enum-known-i = (c : At-match-keys1) → s33 .asks (m21 (c .before .before) (c .before .work .given))
 
-      abbrev pub m22 : (before : At-match-keys1) → (given : s33 .gives (m21 (before .before .before) (before .before .w .given))) →
+      abbrev pub m22 : (before : At-match-keys1) → (given : s33 .gives (m21 (before .before .before) (before .before .work .given))) →
           Typed.Mo T36
-      m22 = λ before given. s33 .next (m21 (before .before .before) (before .before .w .given)) given
+      m22 = λ before given. s33 .next (m21 (before .before .before) (before .before .work .given)) given
 
       module _ (before· : At-match-keys1) where
         pub record After-i·own : Type 0 where
-          pub given : s33 .gives (m21 (before· .before .before) (before· .before .w .given))
+          pub given : s33 .gives (m21 (before· .before .before) (before· .before .work .given))
 
       pub record After-i : Type 0 where
         pub before : At-match-keys1
@@ -5175,22 +5175,22 @@ module _ (claims· : Claims) where
       m41 = λ before given. s59 .next (m40 (before .before) (After-premise2·gave before)) given
 
       module _ (before· : After-premise2) where
-        pub record After-f2·own : Type 0 where
+        pub record After-words2·own : Type 0 where
           pub given : s59 .gives (m40 (before· .before) (After-premise2·gave before·))
 
-      pub record After-f2 : Type 0 where
+      pub record After-words2 : Type 0 where
         pub before : After-premise2
-        pub f2 : After-f2·own before
+        pub words2 : After-words2·own before
 
-      abbrev pub m42 : (before : After-f2) → (given : s60 .gives (m41 (before .before) (before .f2 .given))) → Typed.Mo T64
-      m42 = λ before given. s60 .next (m41 (before .before) (before .f2 .given)) given
+      abbrev pub m42 : (before : After-words2) → (given : s60 .gives (m41 (before .before) (before .words2 .given))) → Typed.Mo T64
+      m42 = λ before given. s60 .next (m41 (before .before) (before .words2 .given)) given
 
-      module _ (before· : After-f2) where
+      module _ (before· : After-words2) where
         pub record After-slice-known5·own : Type 0 where
-          pub given : s60 .gives (m41 (before· .before) (before· .f2 .given))
+          pub given : s60 .gives (m41 (before· .before) (before· .words2 .given))
 
       pub record After-slice-known5 : Type 0 where
-        pub before : After-f2
+        pub before : After-words2
         pub slice-known5 : After-slice-known5·own before
 
       abbrev pub m43 : (before : After-slice-known5) → (given : s63 .gives (m42 (before .before) (before .slice-known5 .given))) →
@@ -5198,22 +5198,22 @@ module _ (claims· : Claims) where
       m43 = λ before given. s63 .next (m42 (before .before) (before .slice-known5 .given)) given
 
       module _ (before· : After-slice-known5) where
-        pub record After-t2·own : Type 0 where
+        pub record After-terms2·own : Type 0 where
           pub given : s63 .gives (m42 (before· .before) (before· .slice-known5 .given))
 
-      pub record After-t2 : Type 0 where
+      pub record After-terms2 : Type 0 where
         pub before : After-slice-known5
-        pub t2 : After-t2·own before
+        pub terms2 : After-terms2·own before
 
-      abbrev pub m44 : (before : After-t2) → (given : s64 .gives (m43 (before .before) (before .t2 .given))) → Typed.Mo T68
-      m44 = λ before given. s64 .next (m43 (before .before) (before .t2 .given)) given
+      abbrev pub m44 : (before : After-terms2) → (given : s64 .gives (m43 (before .before) (before .terms2 .given))) → Typed.Mo T68
+      m44 = λ before given. s64 .next (m43 (before .before) (before .terms2 .given)) given
 
-      module _ (before· : After-t2) where
+      module _ (before· : After-terms2) where
         pub record After-slice-known6·own : Type 0 where
-          pub given : s64 .gives (m43 (before· .before) (before· .t2 .given))
+          pub given : s64 .gives (m43 (before· .before) (before· .terms2 .given))
 
       pub record After-slice-known6 : Type 0 where
-        pub before : After-t2
+        pub before : After-terms2
         pub slice-known6 : After-slice-known6·own before
 
       abbrev pub m45 : (before : After-slice-known6) → (given : s67 .gives (m44 (before .before) (before .slice-known6 .given))) →
@@ -5221,32 +5221,32 @@ module _ (claims· : Claims) where
       m45 = λ before given. s67 .next (m44 (before .before) (before .slice-known6 .given)) given
 
       module _ (before· : After-slice-known6) where
-        pub record After-w2·own : Type 0 where
+        pub record After-work2·own : Type 0 where
           pub given : s67 .gives (m44 (before· .before) (before· .slice-known6 .given))
 
-      pub record After-w2 : Type 0 where
+      pub record After-work2 : Type 0 where
         pub before : After-slice-known6
-        pub w2 : After-w2·own before
+        pub work2 : After-work2·own before
 
-      module _ (before· : After-w2) where
+      module _ (before· : After-work2) where
         pub record At-match2-keys1·own : Type 0 where
-          pub keys1 : Run.OneOf (0 ∷ []) (Declared.tagOf Answer.the-type (Row.get 32 (T71 .locals) (m45 (before· .before) (before· .w2
-              .given))))
+          pub keys1 : Run.OneOf (0 ∷ []) (Declared.tagOf Answer.the-type (Row.get 32 (T71 .locals) (m45 (before· .before) (before·
+              .work2 .given))))
 
       pub record At-match2-keys1 : Type 0 where
-        pub before : After-w2
+        pub before : After-work2
         pub match2 : At-match2-keys1·own before
 
       abbrev pub Need-enum-known-j : Type 0
-      Need-enum-known-j = (c : At-match2-keys1) → s69 .asks (m45 (c .before .before) (c .before .w2 .given))
+      Need-enum-known-j = (c : At-match2-keys1) → s69 .asks (m45 (c .before .before) (c .before .work2 .given))
 
-      abbrev pub m46 : (before : At-match2-keys1) → (given : s69 .gives (m45 (before .before .before) (before .before .w2 .given))) →
+      abbrev pub m46 : (before : At-match2-keys1) → (given : s69 .gives (m45 (before .before .before) (before .before .work2 .given))) →
           Typed.Mo T73
-      m46 = λ before given. s69 .next (m45 (before .before .before) (before .before .w2 .given)) given
+      m46 = λ before given. s69 .next (m45 (before .before .before) (before .before .work2 .given)) given
 
       module _ (before· : At-match2-keys1) where
         pub record After-j·own : Type 0 where
-          pub given : s69 .gives (m45 (before· .before .before) (before· .before .w2 .given))
+          pub given : s69 .gives (m45 (before· .before .before) (before· .before .work2 .given))
 
       pub record After-j : Type 0 where
         pub before : At-match2-keys1
@@ -5344,43 +5344,43 @@ module _ (claims· : Claims) where
       m57 = λ before given. s82 .next (m56 (before .before) (After-close·gave before)) given
 
       module _ (before· : After-close) where
-        pub record After-t3·own : Type 0 where
+        pub record After-terms3·own : Type 0 where
           pub given : s82 .gives (m56 (before· .before) (After-close·gave before·))
 
-      pub record After-t3 : Type 0 where
+      pub record After-terms3 : Type 0 where
         pub before : After-close
-        pub t3 : After-t3·own before
+        pub terms3 : After-terms3·own before
 
-      abbrev pub m58 : (before : After-t3) → (given : s83 .gives (m57 (before .before) (before .t3 .given))) → Typed.Mo T87
-      m58 = λ before given. s83 .next (m57 (before .before) (before .t3 .given)) given
+      abbrev pub m58 : (before : After-terms3) → (given : s83 .gives (m57 (before .before) (before .terms3 .given))) → Typed.Mo T87
+      m58 = λ before given. s83 .next (m57 (before .before) (before .terms3 .given)) given
 
-      module _ (before· : After-t3) where
+      module _ (before· : After-terms3) where
         pub record After-slice-known7·own : Type 0 where
-          pub given : s83 .gives (m57 (before· .before) (before· .t3 .given))
+          pub given : s83 .gives (m57 (before· .before) (before· .terms3 .given))
 
       pub record After-slice-known7 : Type 0 where
-        pub before : After-t3
+        pub before : After-terms3
         pub slice-known7 : After-slice-known7·own before
 
-      module _ (before· : After-w2) where
+      module _ (before· : After-work2) where
         pub record At-match2-keys2·own : Type 0 where
-          pub keys2 : Run.OneOf (1 ∷ []) (Declared.tagOf Answer.the-type (Row.get 32 (T71 .locals) (m45 (before· .before) (before· .w2
-              .given))))
+          pub keys2 : Run.OneOf (1 ∷ []) (Declared.tagOf Answer.the-type (Row.get 32 (T71 .locals) (m45 (before· .before) (before·
+              .work2 .given))))
 
       pub record At-match2-keys2 : Type 0 where
-        pub before : After-w2
+        pub before : After-work2
         pub match2 : At-match2-keys2·own before
 
       abbrev pub Need-enum-known-s2 : Type 0
-      Need-enum-known-s2 = (c : At-match2-keys2) → s85 .asks (m45 (c .before .before) (c .before .w2 .given))
+      Need-enum-known-s2 = (c : At-match2-keys2) → s85 .asks (m45 (c .before .before) (c .before .work2 .given))
 
-      abbrev pub m59 : (before : At-match2-keys2) → (given : s85 .gives (m45 (before .before .before) (before .before .w2 .given))) →
+      abbrev pub m59 : (before : At-match2-keys2) → (given : s85 .gives (m45 (before .before .before) (before .before .work2 .given))) →
           Typed.Mo T89
-      m59 = λ before given. s85 .next (m45 (before .before .before) (before .before .w2 .given)) given
+      m59 = λ before given. s85 .next (m45 (before .before .before) (before .before .work2 .given)) given
 
       module _ (before· : At-match2-keys2) where
         pub record After-s2·own : Type 0 where
-          pub given : s85 .gives (m45 (before· .before .before) (before· .before .w2 .given))
+          pub given : s85 .gives (m45 (before· .before .before) (before· .before .work2 .given))
 
       pub record After-s2 : Type 0 where
         pub before : At-match2-keys2
@@ -5412,25 +5412,25 @@ module _ (claims· : Claims) where
         pub before : After-s2
         pub known-told3 : After-known-told3·own before
 
-      module _ (before· : After-w2) where
+      module _ (before· : After-work2) where
         pub record At-match2-keys3·own : Type 0 where
-          pub keys3 : Run.OneOf (2 ∷ []) (Declared.tagOf Answer.the-type (Row.get 32 (T71 .locals) (m45 (before· .before) (before· .w2
-              .given))))
+          pub keys3 : Run.OneOf (2 ∷ []) (Declared.tagOf Answer.the-type (Row.get 32 (T71 .locals) (m45 (before· .before) (before·
+              .work2 .given))))
 
       pub record At-match2-keys3 : Type 0 where
-        pub before : After-w2
+        pub before : After-work2
         pub match2 : At-match2-keys3·own before
 
       abbrev pub Need-enum-known-n : Type 0
-      Need-enum-known-n = (c : At-match2-keys3) → s92 .asks (m45 (c .before .before) (c .before .w2 .given))
+      Need-enum-known-n = (c : At-match2-keys3) → s92 .asks (m45 (c .before .before) (c .before .work2 .given))
 
-      abbrev pub m66 : (before : At-match2-keys3) → (given : s92 .gives (m45 (before .before .before) (before .before .w2 .given))) →
+      abbrev pub m66 : (before : At-match2-keys3) → (given : s92 .gives (m45 (before .before .before) (before .before .work2 .given))) →
           Typed.Mo T96
-      m66 = λ before given. s92 .next (m45 (before .before .before) (before .before .w2 .given)) given
+      m66 = λ before given. s92 .next (m45 (before .before .before) (before .before .work2 .given)) given
 
       module _ (before· : At-match2-keys3) where
         pub record After-n·own : Type 0 where
-          pub given : s92 .gives (m45 (before· .before .before) (before· .before .w2 .given))
+          pub given : s92 .gives (m45 (before· .before .before) (before· .before .work2 .given))
 
       pub record After-n : Type 0 where
         pub before : At-match2-keys3
@@ -5468,16 +5468,16 @@ module _ (claims· : Claims) where
         pub before : After-n
         pub known-told4 : After-known-told4·own before
 
-      abbrev pub m75 : (before : After-t3) → (given : s83 .gives (m57 (before .before) (before .t3 .given))) → Typed.Mo T105
+      abbrev pub m75 : (before : After-terms3) → (given : s83 .gives (m57 (before .before) (before .terms3 .given))) → Typed.Mo T105
       m75 = λ before given. s101 (m58 before given)
 
-      abbrev pub m76 : (before : After-t3) → (given : s83 .gives (m57 (before .before) (before .t3 .given))) → Typed.Mo T106
+      abbrev pub m76 : (before : After-terms3) → (given : s83 .gives (m57 (before .before) (before .terms3 .given))) → Typed.Mo T106
       m76 = λ before given. s102 (m75 before given)
 
-      abbrev pub m77 : (before : After-t3) → (given : s83 .gives (m57 (before .before) (before .t3 .given))) → Typed.Mo T107
+      abbrev pub m77 : (before : After-terms3) → (given : s83 .gives (m57 (before .before) (before .terms3 .given))) → Typed.Mo T107
       m77 = λ before given. s103 (m76 before given)
 
-      abbrev pub m78 : (before : After-t3) → (given : s83 .gives (m57 (before .before) (before .t3 .given))) → Typed.Mo T108
+      abbrev pub m78 : (before : After-terms3) → (given : s83 .gives (m57 (before .before) (before .terms3 .given))) → Typed.Mo T108
       m78 = λ before given. s104 (m77 before given)
 
       abbrev pub m79 : (before : After-s2) → (given : s86 .gives (m59 (before .before) (before .s2 .given))) → Typed.Mo T105
@@ -5504,25 +5504,25 @@ module _ (claims· : Claims) where
       abbrev pub m86 : (before : After-n) → (given : s93 .gives (m66 (before .before) (before .n .given))) → Typed.Mo T108
       m86 = λ before given. s104 (m85 before given)
 
-      module _ (before· : After-w) where
+      module _ (before· : After-work) where
         pub record At-match-keys2·own : Type 0 where
-          pub keys2 : Run.OneOf (1 ∷ []) (Declared.tagOf Answer.the-type (Row.get 22 (T34 .locals) (m21 (before· .before) (before· .w
+          pub keys2 : Run.OneOf (1 ∷ []) (Declared.tagOf Answer.the-type (Row.get 22 (T34 .locals) (m21 (before· .before) (before· .work
               .given))))
 
       pub record At-match-keys2 : Type 0 where
-        pub before : After-w
+        pub before : After-work
         pub match : At-match-keys2·own before
 
       abbrev pub Need-enum-known-s : Type 0
-      Need-enum-known-s = (c : At-match-keys2) → s105 .asks (m21 (c .before .before) (c .before .w .given))
+      Need-enum-known-s = (c : At-match-keys2) → s105 .asks (m21 (c .before .before) (c .before .work .given))
 
-      abbrev pub m87 : (before : At-match-keys2) → (given : s105 .gives (m21 (before .before .before) (before .before .w .given))) →
+      abbrev pub m87 : (before : At-match-keys2) → (given : s105 .gives (m21 (before .before .before) (before .before .work .given))) →
           Typed.Mo T109
-      m87 = λ before given. s105 .next (m21 (before .before .before) (before .before .w .given)) given
+      m87 = λ before given. s105 .next (m21 (before .before .before) (before .before .work .given)) given
 
       module _ (before· : At-match-keys2) where
         pub record After-s·own : Type 0 where
-          pub given : s105 .gives (m21 (before· .before .before) (before· .before .w .given))
+          pub given : s105 .gives (m21 (before· .before .before) (before· .before .work .given))
 
       pub record After-s : Type 0 where
         pub before : At-match-keys2
@@ -5557,25 +5557,25 @@ module _ (claims· : Claims) where
         pub before : After-s
         pub known-told5 : After-known-told5·own before
 
-      module _ (before· : After-w) where
+      module _ (before· : After-work) where
         pub record At-match-keys3·own : Type 0 where
-          pub keys3 : Run.OneOf (2 ∷ []) (Declared.tagOf Answer.the-type (Row.get 22 (T34 .locals) (m21 (before· .before) (before· .w
+          pub keys3 : Run.OneOf (2 ∷ []) (Declared.tagOf Answer.the-type (Row.get 22 (T34 .locals) (m21 (before· .before) (before· .work
               .given))))
 
       pub record At-match-keys3 : Type 0 where
-        pub before : After-w
+        pub before : After-work
         pub match : At-match-keys3·own before
 
       abbrev pub Need-enum-known-n-2 : Type 0
-      Need-enum-known-n-2 = (c : At-match-keys3) → s113 .asks (m21 (c .before .before) (c .before .w .given))
+      Need-enum-known-n-2 = (c : At-match-keys3) → s113 .asks (m21 (c .before .before) (c .before .work .given))
 
-      abbrev pub m95 : (before : At-match-keys3) → (given : s113 .gives (m21 (before .before .before) (before .before .w .given))) →
+      abbrev pub m95 : (before : At-match-keys3) → (given : s113 .gives (m21 (before .before .before) (before .before .work .given))) →
           Typed.Mo T117
-      m95 = λ before given. s113 .next (m21 (before .before .before) (before .before .w .given)) given
+      m95 = λ before given. s113 .next (m21 (before .before .before) (before .before .work .given)) given
 
       module _ (before· : At-match-keys3) where
         pub record After-n2·own : Type 0 where
-          pub given : s113 .gives (m21 (before· .before .before) (before· .before .w .given))
+          pub given : s113 .gives (m21 (before· .before .before) (before· .before .work .given))
 
       pub record After-n2 : Type 0 where
         pub before : At-match-keys3
@@ -5616,13 +5616,13 @@ module _ (claims· : Claims) where
         pub before : After-n2
         pub known-told6 : After-known-told6·own before
 
-      abbrev pub m105 : (before : After-t3) → (given : s83 .gives (m57 (before .before) (before .t3 .given))) → Typed.Mo T127
+      abbrev pub m105 : (before : After-terms3) → (given : s83 .gives (m57 (before .before) (before .terms3 .given))) → Typed.Mo T127
       m105 = λ before given. s123 (m78 before given)
 
-      abbrev pub m106 : (before : After-t3) → (given : s83 .gives (m57 (before .before) (before .t3 .given))) → Typed.Mo T128
+      abbrev pub m106 : (before : After-terms3) → (given : s83 .gives (m57 (before .before) (before .terms3 .given))) → Typed.Mo T128
       m106 = λ before given. s124 (m105 before given)
 
-      abbrev pub m107 : (before : After-t3) → (given : s83 .gives (m57 (before .before) (before .t3 .given))) → Typed.Mo T129
+      abbrev pub m107 : (before : After-terms3) → (given : s83 .gives (m57 (before .before) (before .terms3 .given))) → Typed.Mo T129
       m107 = λ before given. s125 (m106 before given)
 
       abbrev pub Need-same-length : Type 0
@@ -6119,15 +6119,16 @@ module _ (claims· : Claims) where
                         before = record {
                           before = record {
                             before = record
-                                { before = record { before = c .before; premise2 = c .premise2 }; f2 = record { given = g } };
+                                { before = record { before = c .before; premise2 = c .premise2 }; words2 = record { given = g } };
                             slice-known5 = record
                                 { given = g' };
                           };
-                          t2 = record { given = g'' };
+                          terms2 = record { given = g'' };
                         };
                         slice-known6 = record { given = g'3 };
                       };
-                      w2 = record { given = g'4 };
+                      work2 = record
+                          { given = g'4 };
                     };
                     match2 = record { keys1 = k };
                   },
@@ -6135,33 +6136,33 @@ module _ (claims· : Claims) where
                     Path'.refl,
                     (
                       close-requires record {
-                        before = record {
-                          before =
-                              record {
+                        before =
+                            record {
+                              before = record {
                                 before = record {
                                   before = record {
                                     before = record {
                                       before = record {
                                         before = record {
-                                          before = record
-                                              { before = record { before = c .before; premise2 = c .premise2 }; f2 = record { given = g } };
-                                          slice-known5 = record
-                                              { given = g' };
+                                          before
+                                              = record { before = record { before = c .before; premise2 = c .premise2 }; words2 = record { given = g } };
+                                          slice-known5 =
+                                              record { given = g' };
                                         };
-                                        t2 = record { given = g'' };
+                                        terms2 = record { given = g'' };
                                       };
                                       slice-known6 = record { given = g'3 };
                                     };
-                                    w2 = record { given = g'4 };
+                                    work2 = record
+                                        { given = g'4 };
                                   };
                                   match2 = record { keys1 = k };
                                 };
                                 j = record { given = g'5 };
                               };
-                          known-told2 = record { given = g'6 };
-                        };
-                        close-arg = record
-                            { given = g'7 };
+                              known-told2 = record { given = g'6 };
+                            };
+                        close-arg = record { given = g'7 };
                       },
                       λ g'8. (
                         Path'.refl,
@@ -6174,17 +6175,19 @@ module _ (claims· : Claims) where
                                     before = record {
                                       before = record {
                                         before = record {
-                                          before = record {
-                                            before =
-                                                record {
-                                                  before = record { before = record { before = c .before; premise2 = c .premise2 }; f2 = record { given = g } };
-                                                  slice-known5 = record { given = g' };
+                                          before =
+                                              record {
+                                                before = record {
+                                                  before = record
+                                                      { before = record { before = c .before; premise2 = c .premise2 }; words2 = record { given = g } };
+                                                  slice-known5 = record
+                                                      { given = g' };
                                                 };
-                                            t2 = record { given = g'' };
-                                          };
+                                                terms2 = record { given = g'' };
+                                              };
                                           slice-known6 = record { given = g'3 };
                                         };
-                                        w2 = record
+                                        work2 = record
                                             { given = g'4 };
                                       };
                                       match2 = record { keys1 = k };
@@ -6214,25 +6217,26 @@ module _ (claims· : Claims) where
                                             before = record {
                                               before = record {
                                                 before = record
-                                                    { before = record { before = c .before; premise2 = c .premise2 }; f2 = record { given = g } };
+                                                    { before = record { before = c .before; premise2 = c .premise2 }; words2 = record { given = g } };
                                                 slice-known5 = record
                                                     { given = g' };
                                               };
-                                              t2 = record { given = g'' };
+                                              terms2 = record { given = g'' };
                                             };
                                             slice-known6 = record { given = g'3 };
                                           };
-                                          w2 = record { given = g'4 };
+                                          work2 = record
+                                              { given = g'4 };
                                         };
                                         match2 = record { keys1 = k };
                                       };
                                       j = record { given = g'5 };
                                     };
                                 known-told2 = record { given = g'6 };
-                              } g'7) g'8;
+                              }
+                                  g'7) g'8;
                             };
-                            t3 =
-                                record { given = g'9 };
+                            terms3 = record { given = g'9 };
                           };
                           slice-known7 = record { given = g'10 };
                         },
@@ -6248,42 +6252,45 @@ module _ (claims· : Claims) where
                           before = record {
                             before = record {
                               before = record
-                                  { before = record { before = c .before; premise2 = c .premise2 }; f2 = record { given = g } };
+                                  { before = record { before = c .before; premise2 = c .premise2 }; words2 = record { given = g } };
                               slice-known5 = record
                                   { given = g' };
                             };
-                            t2 = record { given = g'' };
+                            terms2 = record { given = g'' };
                           };
                           slice-known6 = record { given = g'3 };
                         };
-                        w2 = record { given = g'4 };
+                        work2 = record
+                            { given = g'4 };
                       };
                       match2 = record { keys2 = k };
                     },
                     λ g'11. λ g'12. lay6 record {
                       before = record {
                         before = record {
-                          before = record {
-                            before
-                                = record {
+                          before
+                              = record {
+                                before = record {
                                   before = record {
                                     before = record {
                                       before = record
-                                          { before = record { before = c .before; premise2 = c .premise2 }; f2 = record { given = g } };
+                                          { before = record { before = c .before; premise2 = c .premise2 }; words2 = record { given = g } };
                                       slice-known5 = record
                                           { given = g' };
                                     };
-                                    t2 = record { given = g'' };
+                                    terms2 = record { given = g'' };
                                   };
                                   slice-known6 = record { given = g'3 };
                                 };
-                            w2 = record { given = g'4 };
-                          };
+                                work2 = record
+                                    { given = g'4 };
+                              };
                           match2 = record { keys2 = k };
                         };
                         s2 = record { given = g'11 };
                       };
-                      known-told3 = record { given = g'12 };
+                      known-told3 = record
+                          { given = g'12 };
                     },
                   ),
                   (
@@ -6293,16 +6300,15 @@ module _ (claims· : Claims) where
                           before = record {
                             before = record {
                               before = record {
-                                before = record
-                                    { before = record { before = c .before; premise2 = c .premise2 }; f2 = record { given = g } };
-                                slice-known5 = record
-                                    { given = g' };
+                                before = record { before = record { before = c .before; premise2 = c .premise2 }; words2 = record { given = g } };
+                                slice-known5 = record { given = g' };
                               };
-                              t2 = record { given = g'' };
+                              terms2 = record { given = g'' };
                             };
                             slice-known6 = record { given = g'3 };
                           };
-                          w2 = record { given = g'4 };
+                          work2 =
+                              record { given = g'4 };
                         };
                         match2 = record { keys3 = k };
                       },
@@ -6310,20 +6316,20 @@ module _ (claims· : Claims) where
                         before = record {
                           before = record {
                             before = record {
-                              before
-                                  = record {
-                                    before = record {
-                                      before = record {
-                                        before = record
-                                            { before = record { before = c .before; premise2 = c .premise2 }; f2 = record { given = g } };
-                                        slice-known5 = record
-                                            { given = g' };
-                                      };
-                                      t2 = record { given = g'' };
-                                    };
-                                    slice-known6 = record { given = g'3 };
+                              before = record {
+                                before = record {
+                                  before = record {
+                                    before = record
+                                        { before = record { before = c .before; premise2 = c .premise2 }; words2 = record { given = g } };
+                                    slice-known5 = record
+                                        { given = g' };
                                   };
-                              w2 = record { given = g'4 };
+                                  terms2 = record { given = g'' };
+                                };
+                                slice-known6 = record { given = g'3 };
+                              };
+                              work2 = record
+                                  { given = g'4 };
                             };
                             match2 = record { keys3 = k };
                           };
@@ -6332,18 +6338,17 @@ module _ (claims· : Claims) where
                         known-told4 = record { given = g'14 };
                       },
                     ),
-                    Match.each-below 3
-                        (λ j. ((Unit {0} × (Run.OneOf (0 ∷ []) j → ⊥)) × (Run.OneOf (1 ∷ []) j → ⊥)) × (Run.OneOf (2 ∷ []) j → ⊥) → ⊥)
-                        (λ n. n .1 Path'.refl, (λ n. n .0 .1 Path'.refl, (λ n. n .0 .0 .1 Path'.refl, tt))) (Declared.tagOf Answer.the-type (Row.get
-                        32 (T71 .locals) (m45 record {
+                    Match.each-below 3 (λ j. ((Unit {0} × (Run.OneOf (0 ∷ []) j → ⊥)) × (Run.OneOf (1 ∷ []) j → ⊥)) × (Run.OneOf (2 ∷ []) j →
+                        ⊥) → ⊥) (λ n. n .1 Path'.refl, (λ n. n .0 .1 Path'.refl, (λ n. n .0 .0 .1 Path'.refl, tt))) (Declared.tagOf Answer.the-type
+                        (Row.get 32 (T71 .locals) (m45 record {
                           before = record {
                             before = record {
                               before = record
-                                  { before = record { before = c .before; premise2 = c .premise2 }; f2 = record { given = g } };
+                                  { before = record { before = c .before; premise2 = c .premise2 }; words2 = record { given = g } };
                               slice-known5 = record
                                   { given = g' };
                             };
-                            t2 = record { given = g'' };
+                            terms2 = record { given = g'' };
                           };
                           slice-known6 = record { given = g'3 };
                         } g'4))) (Match.tag-small
@@ -6351,11 +6356,11 @@ module _ (claims· : Claims) where
                           before = record {
                             before = record {
                               before = record
-                                  { before = record { before = c .before; premise2 = c .premise2 }; f2 = record { given = g } };
+                                  { before = record { before = c .before; premise2 = c .premise2 }; words2 = record { given = g } };
                               slice-known5 = record
                                   { given = g' };
                             };
-                            t2 = record { given = g'' };
+                            terms2 = record { given = g'' };
                           };
                           slice-known6 = record { given = g'3 };
                         } g'4))),
@@ -6444,81 +6449,80 @@ module _ (claims· : Claims) where
                         before = record {
                           before = record {
                             before = record
-                                { before = record { before = c .before; premise = c .premise }; f = record { given = g } };
+                                { before = record { before = c .before; premise = c .premise }; words = record { given = g } };
                             slice-known3 = record
                                 { given = g' };
                           };
-                          t = record { given = g'' };
+                          terms = record { given = g'' };
                         };
                         slice-known4 = record { given = g'3 };
                       };
-                      w = record { given = g'4 };
+                      work = record
+                          { given = g'4 };
                     };
-                    match
-                        = record { keys1 = k };
+                    match = record { keys1 = k };
                   },
                   λ g'5. λ g'6. λ g'7. (
                     Path'.refl,
                     (
                       right-requires record {
-                        before = record {
-                          before = record {
-                            before = record {
+                        before =
+                            record {
                               before = record {
                                 before = record {
                                   before = record {
                                     before = record {
-                                      before = record
-                                          { before = record { before = c .before; premise = c .premise }; f = record { given = g } };
-                                      slice-known3 = record
-                                          { given = g' };
+                                      before = record {
+                                        before = record {
+                                          before
+                                              = record { before = record { before = c .before; premise = c .premise }; words = record { given = g } };
+                                          slice-known3 =
+                                              record { given = g' };
+                                        };
+                                        terms = record { given = g'' };
+                                      };
+                                      slice-known4 = record { given = g'3 };
                                     };
-                                    t = record { given = g'' };
+                                    work = record
+                                        { given = g'4 };
                                   };
-                                  slice-known4 = record { given = g'3 };
+                                  match = record { keys1 = k };
                                 };
-                                w = record { given = g'4 };
+                                i = record { given = g'5 };
                               };
-                              match
-                                  = record { keys1 = k };
+                              known-told = record { given = g'6 };
                             };
-                            i = record { given = g'5 };
-                          };
-                          known-told = record { given = g'6 };
-                        };
-                        right-arg = record
-                            { given = g'7 };
+                        right-arg = record { given = g'7 };
                       },
                       λ g'8. lay3 record {
                         before = record {
                           before = record {
                             before = record {
-                              before = record {
-                                before =
-                                    record {
+                              before =
+                                  record {
+                                    before = record {
                                       before = record {
                                         before = record {
                                           before = record {
                                             before = record
-                                                { before = record { before = c .before; premise = c .premise }; f = record { given = g } };
+                                                { before = record { before = c .before; premise = c .premise }; words = record { given = g } };
                                             slice-known3 = record
                                                 { given = g' };
                                           };
-                                          t = record { given = g'' };
+                                          terms = record { given = g'' };
                                         };
                                         slice-known4 = record { given = g'3 };
                                       };
-                                      w = record { given = g'4 };
+                                      work = record
+                                          { given = g'4 };
                                     };
-                                match
-                                    = record { keys1 = k };
-                              };
+                                    match = record { keys1 = k };
+                                  };
                               i = record { given = g'5 };
                             };
                             known-told = record { given = g'6 };
                           };
-                          right-arg = record
-                              { given = g'7 };
+                          right-arg = record { given = g'7 };
                         };
                         right = Called.called ps·2 r·2 (claims· .5) T43 (
                           record
@@ -6532,23 +6536,24 @@ module _ (claims· : Claims) where
                                   before = record {
                                     before = record {
                                       before = record
-                                          { before = record { before = c .before; premise = c .premise }; f = record { given = g } };
+                                          { before = record { before = c .before; premise = c .premise }; words = record { given = g } };
                                       slice-known3 = record
                                           { given = g' };
                                     };
-                                    t = record { given = g'' };
+                                    terms = record { given = g'' };
                                   };
                                   slice-known4 = record { given = g'3 };
                                 };
-                                w = record { given = g'4 };
+                                work = record
+                                    { given = g'4 };
                               };
-                              match
-                                  = record { keys1 = k };
+                              match = record { keys1 = k };
                             };
                             i = record { given = g'5 };
                           };
                           known-told = record { given = g'6 };
-                        } g'7) g'8;
+                        } g'7)
+                            g'8;
                       },
                     ),
                   ),
@@ -6560,41 +6565,41 @@ module _ (claims· : Claims) where
                         before = record {
                           before = record {
                             before = record {
-                              before = record
-                                  { before = record { before = c .before; premise = c .premise }; f = record { given = g } };
+                              before =
+                                  record { before = record { before = c .before; premise = c .premise }; words = record { given = g } };
                               slice-known3 = record
                                   { given = g' };
                             };
-                            t = record { given = g'' };
+                            terms = record { given = g'' };
                           };
                           slice-known4 = record { given = g'3 };
                         };
-                        w = record { given = g'4 };
+                        work = record
+                            { given = g'4 };
                       };
-                      match
-                          = record { keys2 = k };
+                      match = record { keys2 = k };
                     },
                     λ g'9. λ g'10. lay11 record {
                       before = record {
                         before = record {
-                          before = record {
-                            before =
-                                record {
+                          before
+                              = record {
+                                before = record {
                                   before = record {
                                     before = record {
                                       before = record
-                                          { before = record { before = c .before; premise = c .premise }; f = record { given = g } };
+                                          { before = record { before = c .before; premise = c .premise }; words = record { given = g } };
                                       slice-known3 = record
                                           { given = g' };
                                     };
-                                    t = record { given = g'' };
+                                    terms = record { given = g'' };
                                   };
                                   slice-known4 = record { given = g'3 };
                                 };
-                            w = record { given = g'4 };
-                          };
-                          match
-                              = record { keys2 = k };
+                                work = record
+                                    { given = g'4 };
+                              };
+                          match = record { keys2 = k };
                         };
                         s = record { given = g'9 };
                       };
@@ -6603,65 +6608,63 @@ module _ (claims· : Claims) where
                   ),
                   (
                     λ k. (
-                      enum-known-n-2
-                          record {
-                            before = record {
-                              before = record {
-                                before = record {
-                                  before = record {
-                                    before = record
-                                        { before = record { before = c .before; premise = c .premise }; f = record { given = g } };
-                                    slice-known3 = record
-                                        { given = g' };
-                                  };
-                                  t = record { given = g'' };
-                                };
-                                slice-known4 = record { given = g'3 };
-                              };
-                              w = record { given = g'4 };
-                            };
-                            match
-                                = record { keys3 = k };
-                          },
-                      λ g'11. λ g'12. lay12 record {
+                      enum-known-n-2 record {
                         before = record {
                           before = record {
                             before = record {
-                              before =
-                                  record {
+                              before = record {
+                                before = record
+                                    { before = record { before = c .before; premise = c .premise }; words = record { given = g } };
+                                slice-known3 = record
+                                    { given = g' };
+                              };
+                              terms = record { given = g'' };
+                            };
+                            slice-known4 = record { given = g'3 };
+                          };
+                          work = record
+                              { given = g'4 };
+                        };
+                        match = record { keys3 = k };
+                      },
+                      λ g'11. λ g'12. lay12 record {
+                        before = record {
+                          before = record {
+                            before
+                                = record {
+                                  before = record {
                                     before = record {
                                       before = record {
                                         before = record
-                                            { before = record { before = c .before; premise = c .premise }; f = record { given = g } };
+                                            { before = record { before = c .before; premise = c .premise }; words = record { given = g } };
                                         slice-known3 = record
                                             { given = g' };
                                       };
-                                      t = record { given = g'' };
+                                      terms = record { given = g'' };
                                     };
                                     slice-known4 = record { given = g'3 };
                                   };
-                              w = record { given = g'4 };
-                            };
-                            match
-                                = record { keys3 = k };
+                                  work = record
+                                      { given = g'4 };
+                                };
+                            match = record { keys3 = k };
                           };
                           n2 = record { given = g'11 };
                         };
                         known-told6 = record { given = g'12 };
                       },
                     ),
-                    Match.each-below 3 (λ j.
-                        ((Unit {0} × (Run.OneOf (0 ∷ []) j → ⊥)) × (Run.OneOf (1 ∷ []) j → ⊥)) × (Run.OneOf (2 ∷ []) j → ⊥) → ⊥)
-                        (λ n. n .1 Path'.refl, (λ n. n .0 .1 Path'.refl, (λ n. n .0 .0 .1 Path'.refl, tt))) (Declared.tagOf Answer.the-type (Row.get
-                        22 (T34 .locals) (m21 record {
+                    Match.each-below 3 (λ j. ((Unit {0} × (Run.OneOf (0 ∷ []) j → ⊥)) × (Run.OneOf (1 ∷ []) j → ⊥)) × (Run.OneOf (2 ∷ []) j →
+                        ⊥) → ⊥) (λ n. n .1 Path'.refl, (λ n. n .0 .1 Path'.refl, (λ n. n .0 .0 .1 Path'.refl, tt))) (Declared.tagOf Answer.the-type
+                        (Row.get 22 (T34 .locals) (m21 record {
                           before = record {
                             before = record {
                               before = record
-                                  { before = record { before = c .before; premise = c .premise }; f = record { given = g } };
+                                  { before = record { before = c .before; premise = c .premise }; words = record { given = g } };
                               slice-known3 = record
                                   { given = g' };
                             };
-                            t = record { given = g'' };
+                            terms = record { given = g'' };
                           };
                           slice-known4 = record { given = g'3 };
                         } g'4))) (Match.tag-small
@@ -6669,11 +6672,11 @@ module _ (claims· : Claims) where
                           before = record {
                             before = record {
                               before = record
-                                  { before = record { before = c .before; premise = c .premise }; f = record { given = g } };
+                                  { before = record { before = c .before; premise = c .premise }; words = record { given = g } };
                               slice-known3 = record
                                   { given = g' };
                             };
-                            t = record { given = g'' };
+                            terms = record { given = g'' };
                           };
                           slice-known4 = record { given = g'3 };
                         } g'4))),
@@ -6787,23 +6790,24 @@ module _ (claims· : Claims) where
           asked = λ a good pre bs. laid record {
             κs = κs;
             args = record {
-              f = a .0;
-              t = a .1 .0;
-              w = a .1 .1 .0;
-              k = a .1 .1 .1 .0;
-              m =
-                  a .1 .1 .1 .1 .0;
-              st = a .1 .1 .1 .1 .1 .0;
-              q = a .1 .1 .1 .1 .1 .1 .0;
+              words = a .0;
+              terms = a .1 .0;
+              work = a .1 .1 .0;
+              names = a .1
+                  .1 .1 .0;
+              limits = a .1 .1 .1 .1 .0;
+              state = a .1 .1 .1 .1 .1 .0;
+              sequent = a .1 .1 .1 .1 .1 .1 .0;
             };
             good = good;
-            pre = pre;
+            pre =
+                pre;
           }
 
         module _ {M : Type 1} (𝓤 : URA.URA M) (H : Wp.Heap 𝓤) (A : Atoms.Atoms 𝓤) (W : Kit.Given 𝓤 H A) (𝓣 : Wp.Tables 𝓤 H) (known0 :
             Plain.Known 𝓤 H A W 𝓣 1 ps·0 r·0 (claims· .0) (claims· .1) "formula::left") (known1 : Plain.Known 𝓤 H A W 𝓣 4 ps·1 r·1
             (claims· .2) (claims· .3) "prove::premise") (known2 : Plain.Known 𝓤 H A W 𝓣 1 ps·2 r·2 (claims· .4) (claims· .5)
-            "formula::right") (known3 : Plain.Known 𝓤 H A W 𝓣 1 ps·3 r·3 (claims· .6) (claims· .7) "rules::close") where
+            "formula::right") (known3 : Plain.Known 𝓤 H A W 𝓣 1 ps·3 r·3 (claims· .6) (claims· .7) "search_left::close") where
           pub spec : Statement.Triple 𝓤 (Wp.WpFn 𝓤 H (𝓣 .C) (𝓣 .Λ) (Function.fnOf 4 ps r xs m hs body)) (Function.plainOf 𝓤 H A 4 ps r
               Pre· Post·)
           spec = Plain.t-fn-plain 𝓤 H A W 𝓣 4 ps r xs m hs body (λ κs qs bs. Φ) (λ κs qs bs bd. typed κs qs 𝓤 H A W 𝓣

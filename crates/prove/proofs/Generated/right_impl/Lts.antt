@@ -1,16 +1,16 @@
 -- Made by tools/records.py from the sources; antt refuses it where it is stale. Assumes nothing.
 use Prim.Native.Nat
-use Rattle.context.proofs.Answer
-use Rattle.context.proofs.Answer.Laws
 use Rattle.context.proofs.Element
-use Rattle.context.proofs.Limits
-use Rattle.context.proofs.Limits.Laws as Laws'
-use Rattle.context.proofs.Sequent
-use Rattle.context.proofs.Sequent.Laws as Laws''
-use Rattle.context.proofs.State
-use Rattle.context.proofs.State.Laws as Laws'3
-use Rattle.premises.proofs.Ready
-use Rattle.premises.proofs.Ready.Laws as Laws'4
+use Rattle.meter.proofs.Answer
+use Rattle.meter.proofs.Answer.Laws
+use Rattle.meter.proofs.Limits
+use Rattle.meter.proofs.Limits.Laws as Laws'
+use Rattle.meter.proofs.Sequent
+use Rattle.meter.proofs.Sequent.Laws as Laws''
+use Rattle.meter.proofs.State
+use Rattle.meter.proofs.State.Laws as Laws'3
+use Rattle.search_premises.proofs.Ready
+use Rattle.search_premises.proofs.Ready.Laws as Laws'4
 use borrow.Author.Called
 use borrow.Enum.Known
 use borrow.Enum.Make
@@ -77,16 +77,17 @@ abbrev y0 : Syntax.Ty
 y0 = Syntax.tyInt Syntax.w64
 
 abbrev y1 : Syntax.Ty
-y1 = Syntax.tyStruct (99 ∷ 111 ∷ 110 ∷ 116 ∷ 101 ∷ 120 ∷ 116 ∷ 58 ∷ 58 ∷ 83 ∷ 116 ∷ 97 ∷ 116 ∷ 101 ∷ []) (Syntax.tcons y0 (Syntax.tcons
-    y0 (Syntax.tcons y0 (Syntax.tcons y0 Syntax.tnil))))
+y1 = Syntax.tyStruct (109 ∷ 101 ∷ 116 ∷ 101 ∷ 114 ∷ 58 ∷ 58 ∷ 83 ∷ 116 ∷ 97 ∷ 116 ∷ 101 ∷ []) (Syntax.tcons y0 (Syntax.tcons y0
+    (Syntax.tcons y0 (Syntax.tcons y0 Syntax.tnil))))
 
 abbrev y2 : Syntax.Ty
-y2 = Syntax.tyStruct (99 ∷ 111 ∷ 110 ∷ 116 ∷ 101 ∷ 120 ∷ 116 ∷ 58 ∷ 58 ∷ 83 ∷ 101 ∷ 113 ∷ 117 ∷ 101 ∷ 110 ∷ 116 ∷ []) (Syntax.tcons y0
+y2 = Syntax.tyStruct (109 ∷ 101 ∷ 116 ∷ 101 ∷ 114 ∷ 58 ∷ 58 ∷ 83 ∷ 101 ∷ 113 ∷ 117 ∷ 101 ∷ 110 ∷ 116 ∷ []) (Syntax.tcons y0
     (Syntax.tcons y0 (Syntax.tcons y0 (Syntax.tcons y0 Syntax.tnil))))
 
 abbrev y3 : Syntax.Ty
-y3 = Syntax.tyEnum (112 ∷ 114 ∷ 101 ∷ 109 ∷ 105 ∷ 115 ∷ 101 ∷ 115 ∷ 58 ∷ 58 ∷ 82 ∷ 101 ∷ 97 ∷ 100 ∷ 121 ∷ []) (Syntax.ttcons
-    (Syntax.tcons y1 (Syntax.tcons y2 Syntax.tnil)) (Syntax.ttcons (Syntax.tcons y0 Syntax.tnil) Syntax.ttnil))
+y3 = Syntax.tyEnum (115 ∷ 101 ∷ 97 ∷ 114 ∷ 99 ∷ 104 ∷ 95 ∷ 112 ∷ 114 ∷ 101 ∷ 109 ∷ 105 ∷ 115 ∷ 101 ∷ 115 ∷ 58 ∷ 58 ∷ 82 ∷ 101 ∷ 97 ∷ 100
+    ∷ 121 ∷ []) (Syntax.ttcons (Syntax.tcons y1 (Syntax.tcons y2 Syntax.tnil)) (Syntax.ttcons (Syntax.tcons y0 Syntax.tnil)
+    Syntax.ttnil))
 
 abbrev y4 : Syntax.Ty
 y4 = Syntax.tyInt Syntax.w32
@@ -113,9 +114,9 @@ abbrev y11 : Syntax.Ty
 y11 = Syntax.tyStruct (38 ∷ 91 ∷ 93 ∷ []) (Syntax.tcons y10 (Syntax.tcons y0 Syntax.tnil))
 
 abbrev y12 : Syntax.Ty
-y12 = Syntax.tyEnum (99 ∷ 111 ∷ 110 ∷ 116 ∷ 101 ∷ 120 ∷ 116 ∷ 58 ∷ 58 ∷ 65 ∷ 110 ∷ 115 ∷ 119 ∷ 101 ∷ 114 ∷ []) (Syntax.ttcons
-    (Syntax.tcons y0 (Syntax.tcons y1 Syntax.tnil)) (Syntax.ttcons (Syntax.tcons y1 Syntax.tnil) (Syntax.ttcons (Syntax.tcons y0
-    (Syntax.tcons y1 Syntax.tnil)) Syntax.ttnil)))
+y12 = Syntax.tyEnum (109 ∷ 101 ∷ 116 ∷ 101 ∷ 114 ∷ 58 ∷ 58 ∷ 65 ∷ 110 ∷ 115 ∷ 119 ∷ 101 ∷ 114 ∷ []) (Syntax.ttcons (Syntax.tcons y0
+    (Syntax.tcons y1 Syntax.tnil)) (Syntax.ttcons (Syntax.tcons y1 Syntax.tnil) (Syntax.ttcons (Syntax.tcons y0 (Syntax.tcons y1
+    Syntax.tnil)) Syntax.ttnil)))
 
 abbrev y13 : Syntax.Ty
 y13 = Syntax.tyRef Syntax.erased Syntax.mut y4
@@ -247,8 +248,8 @@ abbrev y55 : Row.Entry
 y55 = (0, Rows.whole (Declared.row Answer.the-type))
 
 abbrev y56 : Syntax.Ty
-y56 = Syntax.tyStruct (99 ∷ 111 ∷ 110 ∷ 116 ∷ 101 ∷ 120 ∷ 116 ∷ 58 ∷ 58 ∷ 76 ∷ 105 ∷ 109 ∷ 105 ∷ 116 ∷ 115 ∷ []) (Syntax.tcons y0
-    (Syntax.tcons y0 (Syntax.tcons y0 (Syntax.tcons y0 Syntax.tnil))))
+y56 = Syntax.tyStruct (109 ∷ 101 ∷ 116 ∷ 101 ∷ 114 ∷ 58 ∷ 58 ∷ 76 ∷ 105 ∷ 109 ∷ 105 ∷ 116 ∷ 115 ∷ []) (Syntax.tcons y0 (Syntax.tcons y0
+    (Syntax.tcons y0 (Syntax.tcons y0 Syntax.tnil))))
 
 abbrev y57 : Row.Entry
 y57 = (5, Rows.any-gone y56)
@@ -710,9 +711,9 @@ b6 = Syntax.assign (Syntax.place 23 []) (Syntax.aggregate ((Syntax.copy (Syntax.
     ((Syntax.field 1) ∷ []))) ∷ []))
 
 abbrev b7 : Syntax.Body
-b7 = Syntax.call "premises::body" ((Syntax.copy (Syntax.place 19 [])) ∷ (Syntax.copy (Syntax.place 21 [])) ∷ (Syntax.copy (Syntax.place
-    23 [])) ∷ (Syntax.copy (Syntax.place 5 [])) ∷ (Syntax.copy (Syntax.place 6 [])) ∷ (Syntax.copy (Syntax.place 7 [])) ∷ (Syntax.copy
-    (Syntax.place 8 [])) ∷ []) (Syntax.place 17 [])
+b7 = Syntax.call "search_premises::body" ((Syntax.copy (Syntax.place 19 [])) ∷ (Syntax.copy (Syntax.place 21 [])) ∷ (Syntax.copy
+    (Syntax.place 23 [])) ∷ (Syntax.copy (Syntax.place 5 [])) ∷ (Syntax.copy (Syntax.place 6 [])) ∷ (Syntax.copy (Syntax.place 7 [])) ∷
+    (Syntax.copy (Syntax.place 8 [])) ∷ []) (Syntax.place 17 [])
 
 abbrev b8 : Syntax.Body
 b8 = Syntax.assign (Syntax.place 9 []) (Syntax.rvOpd (Syntax.copy (Syntax.place 17 ((Syntax.variant 1) ∷ (Syntax.field 1) ∷ []))))
@@ -774,9 +775,9 @@ b24 = Syntax.assign (Syntax.place 35 []) (Syntax.op2 (Syntax.add Syntax.unsigned
     8 [])))
 
 abbrev b25 : Syntax.Body
-b25 = Syntax.call "rules::close" ((Syntax.copy (Syntax.place 34 [])) ∷ (Syntax.copy (Syntax.place 5 [])) ∷ (Syntax.copy (Syntax.place 13
-    [])) ∷ (Syntax.int Syntax.w64 4) ∷ (Syntax.copy (Syntax.place 35 [])) ∷ (Syntax.copy (Syntax.place 12 [])) ∷ (Syntax.int Syntax.w64
-    0) ∷ (Syntax.int Syntax.w64 0) ∷ (Syntax.int Syntax.w64 0) ∷ []) (Syntax.place 32 [])
+b25 = Syntax.call "search_left::close" ((Syntax.copy (Syntax.place 34 [])) ∷ (Syntax.copy (Syntax.place 5 [])) ∷ (Syntax.copy
+    (Syntax.place 13 [])) ∷ (Syntax.int Syntax.w64 4) ∷ (Syntax.copy (Syntax.place 35 [])) ∷ (Syntax.copy (Syntax.place 12 [])) ∷
+    (Syntax.int Syntax.w64 0) ∷ (Syntax.int Syntax.w64 0) ∷ (Syntax.int Syntax.w64 0) ∷ []) (Syntax.place 32 [])
 
 abbrev b26 : Syntax.Body
 b26 = Syntax.seq b24 b25
@@ -1710,9 +1711,9 @@ module _ (claims· : Claims) where
       abbrev pub Closed : Type 2
       Closed = (𝓤 : URA.URA M) (H : Wp.Heap 𝓤) (A : Atoms.Atoms 𝓤) (W : Kit.Given 𝓤 H A) (𝓣 : Wp.Tables 𝓤 H) (known0 : Plain.Known 𝓤 H A
           W 𝓣 1 ps·0 r·0 (claims· .0) (claims· .1) "identifier_generator::fresh") (known1 : Plain.Known 𝓤 H A W 𝓣 3 ps·1 r·1 (claims·
-          .2) (claims· .3) "premises::body") (known2 : Plain.Known 𝓤 H A W 𝓣 4 ps·2 r·2 (claims· .4) (claims· .5) "prove::right")
-          (known3 : Plain.Known 𝓤 H A W 𝓣 1 ps·3 r·3 (claims· .6) (claims· .7) "rules::close") → Statement.Triple 𝓤 (Wp.WpFn 𝓤 H (𝓣 .C)
-          (𝓣 .Λ) (Function.fnOf 4 ps r xs m hs body)) (Function.plainOf 𝓤 H A 4 ps r Pre· Post·)
+          .2) (claims· .3) "search_premises::body") (known2 : Plain.Known 𝓤 H A W 𝓣 4 ps·2 r·2 (claims· .4) (claims· .5) "prove::right")
+          (known3 : Plain.Known 𝓤 H A W 𝓣 1 ps·3 r·3 (claims· .6) (claims· .7) "search_left::close") → Statement.Triple 𝓤 (Wp.WpFn 𝓤 H
+          (𝓣 .C) (𝓣 .Λ) (Function.fnOf 4 ps r xs m hs body)) (Function.plainOf 𝓤 H A 4 ps r Pre· Post·)
 
     module _ where
       abbrev at0 : Typed.TF T33 O1
@@ -2003,8 +2004,8 @@ module _ (claims· : Claims) where
       module _ {M : Type 1} (𝓤 : URA.URA M) (H : Wp.Heap 𝓤) (A : Atoms.Atoms 𝓤) (W : Kit.Given 𝓤 H A) (𝓣 : Wp.Tables 𝓤 H) where
         abbrev Knowns : Type 1
         Knowns = Plain.Known 𝓤 H A W 𝓣 1 ps·0 r·0 (claims· .0) (claims· .1) "identifier_generator::fresh" × Plain.Known 𝓤 H A W 𝓣 3 ps·1
-            r·1 (claims· .2) (claims· .3) "premises::body" × Plain.Known 𝓤 H A W 𝓣 4 ps·2 r·2 (claims· .4) (claims· .5) "prove::right" ×
-            Plain.Known 𝓤 H A W 𝓣 1 ps·3 r·3 (claims· .6) (claims· .7) "rules::close"
+            r·1 (claims· .2) (claims· .3) "search_premises::body" × Plain.Known 𝓤 H A W 𝓣 4 ps·2 r·2 (claims· .4) (claims· .5)
+            "prove::right" × Plain.Known 𝓤 H A W 𝓣 1 ps·3 r·3 (claims· .6) (claims· .7) "search_left::close"
 
       module _ (κs : Lifetimes.Lfts 4) (qs : Lifetimes.Shares 4) where
         abbrev g5 : List.List Row.Entry
@@ -2634,7 +2635,7 @@ module _ (claims· : Claims) where
               (Typed.pass T76 T77 s73 (Typed.pass T77 T78 s74 Ψ))) (Typed.pass T78 T79 s75) (Typed.g-post 𝓤 H A W 𝓣 E G75 G77 G78 b25 (λ
               Ψ. Typed.both s72 (Typed.pass T76 T77 s73 Ψ)) (Typed.pass T77 T78 s74) (Typed.g-post 𝓤 H A W 𝓣 E G75 G76 G77 b25
               (Typed.both s72) (Typed.pass T76 T77 s73) (Plain.t-call-plain 𝓤 H A W 𝓣 1 ps·3 r·3 (claims· .6) (claims· .7)
-              "rules::close" (known .3) E (λ pos β. β) G75 (
+              "search_left::close" (known .3) E (λ pos β. β) G75 (
                 record
                     { pos = 34; ty = Syntax.tyRef Syntax.erased Syntax.mut y7; ref = λ x. x },
                 (
@@ -3470,7 +3471,7 @@ module _ (claims· : Claims) where
 
           d79 : Typed.Typed 𝓤 H A 𝓣 E G14 b56 Δ0 at79
           d79 = Typed.s-seq 𝓤 H A W 𝓣 E G14 G15 b7 b55 Δ0 (Typed.both s13) at78 (Plain.t-call-plain 𝓤 H A W 𝓣 3 ps·1 r·1 (claims· .2)
-              (claims· .3) "premises::body" (known .1) E (λ pos β. β) G14 (
+              (claims· .3) "search_premises::body" (known .1) E (λ pos β. β) G14 (
                 record
                     { pos = 19; ty = Syntax.tyRef Syntax.erased Syntax.imm y4; ref = λ x. x },
                 (
@@ -3796,31 +3797,32 @@ module _ (claims· : Claims) where
 
       module _ (κs : Lifetimes.Lfts 4) where
         pub record Args : Type 0 where
-          pub f : Kinds.Den {n = 4} κs (MutSlice.pMutS (Referent.rtF (Referent.fInt Syntax.w32)) 0 tt)
-          pub t : Kinds.Den {n = 4} κs (MutSlice.pMutS (Referent.rtF (Referent.fInt Syntax.w16)) 1 tt)
-          pub w : Kinds.Den {n = 4} κs (MutSlice.pMutS Element.row 2 tt)
-          pub k : Kinds.Den {n = 4} κs (ShrSlice.pShrS (Referent.rtF (Referent.fInt Syntax.w8)) 3 tt)
-          pub m : Kinds.Den {n = 4} κs (Value.pVal record {
+          pub words : Kinds.Den {n = 4} κs (MutSlice.pMutS (Referent.rtF (Referent.fInt Syntax.w32)) 0 tt)
+          pub terms : Kinds.Den {n = 4} κs (MutSlice.pMutS (Referent.rtF (Referent.fInt Syntax.w16)) 1 tt)
+          pub work : Kinds.Den {n = 4} κs (MutSlice.pMutS Element.row 2 tt)
+          pub names : Kinds.Den {n = 4} κs (ShrSlice.pShrS (Referent.rtF (Referent.fInt Syntax.w8)) 3 tt)
+          pub limits : Kinds.Den {n = 4} κs (Value.pVal record {
             ty = Declared'.row Limits.the-type;
             one = Path'.refl;
-            val = Laws'6.val
-                Limits.the-type Laws'.the-laws;
+            val =
+                Laws'6.val Limits.the-type Laws'.the-laws;
             tells = Laws'6.tells Limits.the-type Laws'.the-laws;
-            still = Laws'6.still Limits.the-type
-                Laws'.the-copy Exit.yes;
+            still = Laws'6.still
+                Limits.the-type Laws'.the-copy Exit.yes;
             row = Rows.whole (Declared'.row Limits.the-type);
             rd = λ x. x;
             mk = λ x. x;
-          } λ M 𝓤 H A W. record {
-            copies = Laws'6.copy Limits.the-type Laws'.the-copy 𝓤 H A W;
-            lawful = Laws'6.lawful Limits.the-type Laws'.the-laws 𝓤 H A
-                W;
-            makes = Laws'6.makes Limits.the-type Laws'.the-plain 𝓤 H A;
-            in-mem = Local.mem-whole 𝓤 H A W (Declared'.row
-                Limits.the-type);
-            of-mem = Local.whole-mem 𝓤 H A W (Declared'.row Limits.the-type);
-          })
-          pub st : Kinds.Den {n = 4} κs (Value.pVal record {
+          } λ M
+              𝓤 H A W. record {
+                copies = Laws'6.copy Limits.the-type Laws'.the-copy 𝓤 H A W;
+                lawful = Laws'6.lawful Limits.the-type
+                    Laws'.the-laws 𝓤 H A W;
+                makes = Laws'6.makes Limits.the-type Laws'.the-plain 𝓤 H A;
+                in-mem = Local.mem-whole 𝓤 H A W
+                    (Declared'.row Limits.the-type);
+                of-mem = Local.whole-mem 𝓤 H A W (Declared'.row Limits.the-type);
+              })
+          pub state : Kinds.Den {n = 4} κs (Value.pVal record {
             ty = Declared'.row State.the-type;
             one = Path'.refl;
             val = Laws'6.val
@@ -3840,11 +3842,11 @@ module _ (claims· : Claims) where
                 State.the-type);
             of-mem = Local.whole-mem 𝓤 H A W (Declared'.row State.the-type);
           })
-          pub q : Kinds.Den {n = 4} κs (Value.pVal record {
+          pub sequent : Kinds.Den {n = 4} κs (Value.pVal record {
             ty = Declared'.row Sequent.the-type;
             one = Path'.refl;
-            val = Laws'6.val
-                Sequent.the-type Laws''.the-laws;
+            val =
+                Laws'6.val Sequent.the-type Laws''.the-laws;
             tells = Laws'6.tells Sequent.the-type Laws''.the-laws;
             still = Laws'6.still
                 Sequent.the-type Laws''.the-copy Exit.yes;
@@ -3863,7 +3865,7 @@ module _ (claims· : Claims) where
               })
 
         abbrev pub dens : (a : Args) → Kinds.Dens κs ps
-        dens = λ a. (a .f, (a .t, (a .w, (a .k, (a .m, (a .st, (a .q, tt)))))))
+        dens = λ a. (a .words, (a .terms, (a .work, (a .names, (a .limits, (a .state, (a .sequent, tt)))))))
 
       abbrev pub m0 : (κs : Lifetimes.Lfts 4) → (args : Args κs) → Typed.Mo T0
       m0 = λ κs args. (tt, Enter.partsP κs 1 ps xs (dens κs args))
@@ -4066,22 +4068,22 @@ module _ (claims· : Claims) where
       m15 = λ before given. s20 .next (m14 (before .before) (After-body·gave before)) given
 
       module _ (before· : After-body) where
-        pub record After-t·own : Type 0 where
+        pub record After-terms·own : Type 0 where
           pub given : s20 .gives (m14 (before· .before) (After-body·gave before·))
 
-      pub record After-t : Type 0 where
+      pub record After-terms : Type 0 where
         pub before : After-body
-        pub t : After-t·own before
+        pub terms : After-terms·own before
 
-      abbrev pub m16 : (before : After-t) → (given : s21 .gives (m15 (before .before) (before .t .given))) → Typed.Mo T24
-      m16 = λ before given. s21 .next (m15 (before .before) (before .t .given)) given
+      abbrev pub m16 : (before : After-terms) → (given : s21 .gives (m15 (before .before) (before .terms .given))) → Typed.Mo T24
+      m16 = λ before given. s21 .next (m15 (before .before) (before .terms .given)) given
 
-      module _ (before· : After-t) where
+      module _ (before· : After-terms) where
         pub record After-slice-known3·own : Type 0 where
-          pub given : s21 .gives (m15 (before· .before) (before· .t .given))
+          pub given : s21 .gives (m15 (before· .before) (before· .terms .given))
 
       pub record After-slice-known3 : Type 0 where
-        pub before : After-t
+        pub before : After-terms
         pub slice-known3 : After-slice-known3·own before
 
       abbrev pub m17 : (before : After-slice-known3) → (given : s24 .gives (m16 (before .before) (before .slice-known3 .given))) →
@@ -4089,32 +4091,32 @@ module _ (claims· : Claims) where
       m17 = λ before given. s24 .next (m16 (before .before) (before .slice-known3 .given)) given
 
       module _ (before· : After-slice-known3) where
-        pub record After-w·own : Type 0 where
+        pub record After-work·own : Type 0 where
           pub given : s24 .gives (m16 (before· .before) (before· .slice-known3 .given))
 
-      pub record After-w : Type 0 where
+      pub record After-work : Type 0 where
         pub before : After-slice-known3
-        pub w : After-w·own before
+        pub work : After-work·own before
 
-      module _ (before· : After-w) where
+      module _ (before· : After-work) where
         pub record At-match-keys1·own : Type 0 where
-          pub keys1 : Run.OneOf (1 ∷ []) (Declared.tagOf Ready.the-type (Row.get 17 (T27 .locals) (m17 (before· .before) (before· .w
+          pub keys1 : Run.OneOf (1 ∷ []) (Declared.tagOf Ready.the-type (Row.get 17 (T27 .locals) (m17 (before· .before) (before· .work
               .given))))
 
       pub record At-match-keys1 : Type 0 where
-        pub before : After-w
+        pub before : After-work
         pub match : At-match-keys1·own before
 
       abbrev pub Need-enum-known-n : Type 0
-      Need-enum-known-n = (c : At-match-keys1) → s26 .asks (m17 (c .before .before) (c .before .w .given))
+      Need-enum-known-n = (c : At-match-keys1) → s26 .asks (m17 (c .before .before) (c .before .work .given))
 
-      abbrev pub m18 : (before : At-match-keys1) → (given : s26 .gives (m17 (before .before .before) (before .before .w .given))) →
+      abbrev pub m18 : (before : At-match-keys1) → (given : s26 .gives (m17 (before .before .before) (before .before .work .given))) →
           Typed.Mo T29
-      m18 = λ before given. s26 .next (m17 (before .before .before) (before .before .w .given)) given
+      m18 = λ before given. s26 .next (m17 (before .before .before) (before .before .work .given)) given
 
       module _ (before· : At-match-keys1) where
         pub record After-n·own : Type 0 where
-          pub given : s26 .gives (m17 (before· .before .before) (before· .before .w .given))
+          pub given : s26 .gives (m17 (before· .before .before) (before· .before .work .given))
 
       pub record After-n : Type 0 where
         pub before : At-match-keys1
@@ -4149,25 +4151,25 @@ module _ (claims· : Claims) where
         pub before : After-n
         pub known-told : After-known-told·own before
 
-      module _ (before· : After-w) where
+      module _ (before· : After-work) where
         pub record At-match-keys2·own : Type 0 where
-          pub keys2 : Run.OneOf (0 ∷ []) (Declared.tagOf Ready.the-type (Row.get 17 (T27 .locals) (m17 (before· .before) (before· .w
+          pub keys2 : Run.OneOf (0 ∷ []) (Declared.tagOf Ready.the-type (Row.get 17 (T27 .locals) (m17 (before· .before) (before· .work
               .given))))
 
       pub record At-match-keys2 : Type 0 where
-        pub before : After-w
+        pub before : After-work
         pub match : At-match-keys2·own before
 
       abbrev pub Need-enum-known-s1 : Type 0
-      Need-enum-known-s1 = (c : At-match-keys2) → s34 .asks (m17 (c .before .before) (c .before .w .given))
+      Need-enum-known-s1 = (c : At-match-keys2) → s34 .asks (m17 (c .before .before) (c .before .work .given))
 
-      abbrev pub m26 : (before : At-match-keys2) → (given : s34 .gives (m17 (before .before .before) (before .before .w .given))) →
+      abbrev pub m26 : (before : At-match-keys2) → (given : s34 .gives (m17 (before .before .before) (before .before .work .given))) →
           Typed.Mo T37
-      m26 = λ before given. s34 .next (m17 (before .before .before) (before .before .w .given)) given
+      m26 = λ before given. s34 .next (m17 (before .before .before) (before .before .work .given)) given
 
       module _ (before· : At-match-keys2) where
         pub record After-s1·own : Type 0 where
-          pub given : s34 .gives (m17 (before· .before .before) (before· .before .w .given))
+          pub given : s34 .gives (m17 (before· .before .before) (before· .before .work .given))
 
       pub record After-s1 : Type 0 where
         pub before : At-match-keys2
@@ -4322,22 +4324,22 @@ module _ (claims· : Claims) where
       m41 = λ before given. s53 .next (m40 (before .before) (After-right·gave before)) given
 
       module _ (before· : After-right) where
-        pub record After-f·own : Type 0 where
+        pub record After-words·own : Type 0 where
           pub given : s53 .gives (m40 (before· .before) (After-right·gave before·))
 
-      pub record After-f : Type 0 where
+      pub record After-words : Type 0 where
         pub before : After-right
-        pub f : After-f·own before
+        pub words : After-words·own before
 
-      abbrev pub m42 : (before : After-f) → (given : s54 .gives (m41 (before .before) (before .f .given))) → Typed.Mo T58
-      m42 = λ before given. s54 .next (m41 (before .before) (before .f .given)) given
+      abbrev pub m42 : (before : After-words) → (given : s54 .gives (m41 (before .before) (before .words .given))) → Typed.Mo T58
+      m42 = λ before given. s54 .next (m41 (before .before) (before .words .given)) given
 
-      module _ (before· : After-f) where
+      module _ (before· : After-words) where
         pub record After-slice-known4·own : Type 0 where
-          pub given : s54 .gives (m41 (before· .before) (before· .f .given))
+          pub given : s54 .gives (m41 (before· .before) (before· .words .given))
 
       pub record After-slice-known4 : Type 0 where
-        pub before : After-f
+        pub before : After-words
         pub slice-known4 : After-slice-known4·own before
 
       abbrev pub m43 : (before : After-slice-known4) → (given : s57 .gives (m42 (before .before) (before .slice-known4 .given))) →
@@ -4345,22 +4347,22 @@ module _ (claims· : Claims) where
       m43 = λ before given. s57 .next (m42 (before .before) (before .slice-known4 .given)) given
 
       module _ (before· : After-slice-known4) where
-        pub record After-t2·own : Type 0 where
+        pub record After-terms2·own : Type 0 where
           pub given : s57 .gives (m42 (before· .before) (before· .slice-known4 .given))
 
-      pub record After-t2 : Type 0 where
+      pub record After-terms2 : Type 0 where
         pub before : After-slice-known4
-        pub t2 : After-t2·own before
+        pub terms2 : After-terms2·own before
 
-      abbrev pub m44 : (before : After-t2) → (given : s58 .gives (m43 (before .before) (before .t2 .given))) → Typed.Mo T62
-      m44 = λ before given. s58 .next (m43 (before .before) (before .t2 .given)) given
+      abbrev pub m44 : (before : After-terms2) → (given : s58 .gives (m43 (before .before) (before .terms2 .given))) → Typed.Mo T62
+      m44 = λ before given. s58 .next (m43 (before .before) (before .terms2 .given)) given
 
-      module _ (before· : After-t2) where
+      module _ (before· : After-terms2) where
         pub record After-slice-known5·own : Type 0 where
-          pub given : s58 .gives (m43 (before· .before) (before· .t2 .given))
+          pub given : s58 .gives (m43 (before· .before) (before· .terms2 .given))
 
       pub record After-slice-known5 : Type 0 where
-        pub before : After-t2
+        pub before : After-terms2
         pub slice-known5 : After-slice-known5·own before
 
       abbrev pub m45 : (before : After-slice-known5) → (given : s61 .gives (m44 (before .before) (before .slice-known5 .given))) →
@@ -4368,32 +4370,32 @@ module _ (claims· : Claims) where
       m45 = λ before given. s61 .next (m44 (before .before) (before .slice-known5 .given)) given
 
       module _ (before· : After-slice-known5) where
-        pub record After-w2·own : Type 0 where
+        pub record After-work2·own : Type 0 where
           pub given : s61 .gives (m44 (before· .before) (before· .slice-known5 .given))
 
-      pub record After-w2 : Type 0 where
+      pub record After-work2 : Type 0 where
         pub before : After-slice-known5
-        pub w2 : After-w2·own before
+        pub work2 : After-work2·own before
 
-      module _ (before· : After-w2) where
+      module _ (before· : After-work2) where
         pub record At-match2-keys1·own : Type 0 where
-          pub keys1 : Run.OneOf (0 ∷ []) (Declared.tagOf Answer.the-type (Row.get 25 (T65 .locals) (m45 (before· .before) (before· .w2
-              .given))))
+          pub keys1 : Run.OneOf (0 ∷ []) (Declared.tagOf Answer.the-type (Row.get 25 (T65 .locals) (m45 (before· .before) (before·
+              .work2 .given))))
 
       pub record At-match2-keys1 : Type 0 where
-        pub before : After-w2
+        pub before : After-work2
         pub match2 : At-match2-keys1·own before
 
       abbrev pub Need-enum-known-i : Type 0
-      Need-enum-known-i = (c : At-match2-keys1) → s63 .asks (m45 (c .before .before) (c .before .w2 .given))
+      Need-enum-known-i = (c : At-match2-keys1) → s63 .asks (m45 (c .before .before) (c .before .work2 .given))
 
-      abbrev pub m46 : (before : At-match2-keys1) → (given : s63 .gives (m45 (before .before .before) (before .before .w2 .given))) →
+      abbrev pub m46 : (before : At-match2-keys1) → (given : s63 .gives (m45 (before .before .before) (before .before .work2 .given))) →
           Typed.Mo T67
-      m46 = λ before given. s63 .next (m45 (before .before .before) (before .before .w2 .given)) given
+      m46 = λ before given. s63 .next (m45 (before .before .before) (before .before .work2 .given)) given
 
       module _ (before· : At-match2-keys1) where
         pub record After-i·own : Type 0 where
-          pub given : s63 .gives (m45 (before· .before .before) (before· .before .w2 .given))
+          pub given : s63 .gives (m45 (before· .before .before) (before· .before .work2 .given))
 
       pub record After-i : Type 0 where
         pub before : At-match2-keys1
@@ -4502,43 +4504,43 @@ module _ (claims· : Claims) where
       m59 = λ before given. s78 .next (m58 (before .before) (After-close·gave before)) given
 
       module _ (before· : After-close) where
-        pub record After-t3·own : Type 0 where
+        pub record After-terms3·own : Type 0 where
           pub given : s78 .gives (m58 (before· .before) (After-close·gave before·))
 
-      pub record After-t3 : Type 0 where
+      pub record After-terms3 : Type 0 where
         pub before : After-close
-        pub t3 : After-t3·own before
+        pub terms3 : After-terms3·own before
 
-      abbrev pub m60 : (before : After-t3) → (given : s79 .gives (m59 (before .before) (before .t3 .given))) → Typed.Mo T83
-      m60 = λ before given. s79 .next (m59 (before .before) (before .t3 .given)) given
+      abbrev pub m60 : (before : After-terms3) → (given : s79 .gives (m59 (before .before) (before .terms3 .given))) → Typed.Mo T83
+      m60 = λ before given. s79 .next (m59 (before .before) (before .terms3 .given)) given
 
-      module _ (before· : After-t3) where
+      module _ (before· : After-terms3) where
         pub record After-slice-known6·own : Type 0 where
-          pub given : s79 .gives (m59 (before· .before) (before· .t3 .given))
+          pub given : s79 .gives (m59 (before· .before) (before· .terms3 .given))
 
       pub record After-slice-known6 : Type 0 where
-        pub before : After-t3
+        pub before : After-terms3
         pub slice-known6 : After-slice-known6·own before
 
-      module _ (before· : After-w2) where
+      module _ (before· : After-work2) where
         pub record At-match2-keys2·own : Type 0 where
-          pub keys2 : Run.OneOf (1 ∷ []) (Declared.tagOf Answer.the-type (Row.get 25 (T65 .locals) (m45 (before· .before) (before· .w2
-              .given))))
+          pub keys2 : Run.OneOf (1 ∷ []) (Declared.tagOf Answer.the-type (Row.get 25 (T65 .locals) (m45 (before· .before) (before·
+              .work2 .given))))
 
       pub record At-match2-keys2 : Type 0 where
-        pub before : After-w2
+        pub before : After-work2
         pub match2 : At-match2-keys2·own before
 
       abbrev pub Need-enum-known-s : Type 0
-      Need-enum-known-s = (c : At-match2-keys2) → s81 .asks (m45 (c .before .before) (c .before .w2 .given))
+      Need-enum-known-s = (c : At-match2-keys2) → s81 .asks (m45 (c .before .before) (c .before .work2 .given))
 
-      abbrev pub m61 : (before : At-match2-keys2) → (given : s81 .gives (m45 (before .before .before) (before .before .w2 .given))) →
+      abbrev pub m61 : (before : At-match2-keys2) → (given : s81 .gives (m45 (before .before .before) (before .before .work2 .given))) →
           Typed.Mo T85
-      m61 = λ before given. s81 .next (m45 (before .before .before) (before .before .w2 .given)) given
+      m61 = λ before given. s81 .next (m45 (before .before .before) (before .before .work2 .given)) given
 
       module _ (before· : At-match2-keys2) where
         pub record After-s·own : Type 0 where
-          pub given : s81 .gives (m45 (before· .before .before) (before· .before .w2 .given))
+          pub given : s81 .gives (m45 (before· .before .before) (before· .before .work2 .given))
 
       pub record After-s : Type 0 where
         pub before : At-match2-keys2
@@ -4570,25 +4572,25 @@ module _ (claims· : Claims) where
         pub before : After-s
         pub known-told4 : After-known-told4·own before
 
-      module _ (before· : After-w2) where
+      module _ (before· : After-work2) where
         pub record At-match2-keys3·own : Type 0 where
-          pub keys3 : Run.OneOf (2 ∷ []) (Declared.tagOf Answer.the-type (Row.get 25 (T65 .locals) (m45 (before· .before) (before· .w2
-              .given))))
+          pub keys3 : Run.OneOf (2 ∷ []) (Declared.tagOf Answer.the-type (Row.get 25 (T65 .locals) (m45 (before· .before) (before·
+              .work2 .given))))
 
       pub record At-match2-keys3 : Type 0 where
-        pub before : After-w2
+        pub before : After-work2
         pub match2 : At-match2-keys3·own before
 
       abbrev pub Need-enum-known-n-2 : Type 0
-      Need-enum-known-n-2 = (c : At-match2-keys3) → s88 .asks (m45 (c .before .before) (c .before .w2 .given))
+      Need-enum-known-n-2 = (c : At-match2-keys3) → s88 .asks (m45 (c .before .before) (c .before .work2 .given))
 
-      abbrev pub m68 : (before : At-match2-keys3) → (given : s88 .gives (m45 (before .before .before) (before .before .w2 .given))) →
+      abbrev pub m68 : (before : At-match2-keys3) → (given : s88 .gives (m45 (before .before .before) (before .before .work2 .given))) →
           Typed.Mo T92
-      m68 = λ before given. s88 .next (m45 (before .before .before) (before .before .w2 .given)) given
+      m68 = λ before given. s88 .next (m45 (before .before .before) (before .before .work2 .given)) given
 
       module _ (before· : At-match2-keys3) where
         pub record After-n2·own : Type 0 where
-          pub given : s88 .gives (m45 (before· .before .before) (before· .before .w2 .given))
+          pub given : s88 .gives (m45 (before· .before .before) (before· .before .work2 .given))
 
       pub record After-n2 : Type 0 where
         pub before : At-match2-keys3
@@ -4626,10 +4628,10 @@ module _ (claims· : Claims) where
         pub before : After-n2
         pub known-told5 : After-known-told5·own before
 
-      abbrev pub m77 : (before : After-t3) → (given : s79 .gives (m59 (before .before) (before .t3 .given))) → Typed.Mo T101
+      abbrev pub m77 : (before : After-terms3) → (given : s79 .gives (m59 (before .before) (before .terms3 .given))) → Typed.Mo T101
       m77 = λ before given. s97 (m60 before given)
 
-      abbrev pub m78 : (before : After-t3) → (given : s79 .gives (m59 (before .before) (before .t3 .given))) → Typed.Mo T102
+      abbrev pub m78 : (before : After-terms3) → (given : s79 .gives (m59 (before .before) (before .terms3 .given))) → Typed.Mo T102
       m78 = λ before given. s98 (m77 before given)
 
       abbrev pub m79 : (before : After-s) → (given : s82 .gives (m61 (before .before) (before .s .given))) → Typed.Mo T101
@@ -4684,13 +4686,13 @@ module _ (claims· : Claims) where
           .before .before .before .before .before .κs) (c .before .before .before .before .before .before .before .before .before
           .before .before .before .before .before .args)) (m85 (c .before) (c .known-told .given) .1)))
 
-      abbrev pub m86 : (before : After-t3) → (given : s79 .gives (m59 (before .before) (before .t3 .given))) → Typed.Mo T103
+      abbrev pub m86 : (before : After-terms3) → (given : s79 .gives (m59 (before .before) (before .terms3 .given))) → Typed.Mo T103
       m86 = λ before given. s99 (m78 before given)
 
-      abbrev pub m87 : (before : After-t3) → (given : s79 .gives (m59 (before .before) (before .t3 .given))) → Typed.Mo T104
+      abbrev pub m87 : (before : After-terms3) → (given : s79 .gives (m59 (before .before) (before .terms3 .given))) → Typed.Mo T104
       m87 = λ before given. s100 (m86 before given)
 
-      abbrev pub m88 : (before : After-t3) → (given : s79 .gives (m59 (before .before) (before .t3 .given))) → Typed.Mo T105
+      abbrev pub m88 : (before : After-terms3) → (given : s79 .gives (m59 (before .before) (before .terms3 .given))) → Typed.Mo T105
       m88 = λ before given. s101 (m87 before given)
 
       abbrev pub Need-same-length-4 : Type 0
@@ -5040,15 +5042,16 @@ module _ (claims· : Claims) where
                         before = record {
                           before = record {
                             before = record
-                                { before = record { before = c .before; right = c .right }; f = record { given = g } };
+                                { before = record { before = c .before; right = c .right }; words = record { given = g } };
                             slice-known4 = record
                                 { given = g' };
                           };
-                          t2 = record { given = g'' };
+                          terms2 = record { given = g'' };
                         };
                         slice-known5 = record { given = g'3 };
                       };
-                      w2 = record { given = g'4 };
+                      work2 = record
+                          { given = g'4 };
                     };
                     match2 = record { keys1 = k };
                   },
@@ -5063,16 +5066,17 @@ module _ (claims· : Claims) where
                                 before = record {
                                   before = record {
                                     before = record {
-                                      before = record
-                                          { before = record { before = c .before; right = c .right }; f = record { given = g } };
+                                      before =
+                                          record { before = record { before = c .before; right = c .right }; words = record { given = g } };
                                       slice-known4 = record
                                           { given = g' };
                                     };
-                                    t2 = record { given = g'' };
+                                    terms2 = record { given = g'' };
                                   };
                                   slice-known5 = record { given = g'3 };
                                 };
-                                w2 = record { given = g'4 };
+                                work2 = record
+                                    { given = g'4 };
                               };
                               match2 = record { keys1 = k };
                             };
@@ -5080,38 +5084,37 @@ module _ (claims· : Claims) where
                           };
                           known-told3 = record { given = g'6 };
                         };
-                        close-arg = record
-                            { given = g'7 };
+                        close-arg = record { given = g'7 };
                       },
                       (
                         close-requires record {
                           before = record {
                             before = record {
                               before = record {
-                                before = record {
-                                  before =
-                                      record {
+                                before
+                                    = record {
+                                      before = record {
                                         before = record {
                                           before = record {
                                             before = record
-                                                { before = record { before = c .before; right = c .right }; f = record { given = g } };
+                                                { before = record { before = c .before; right = c .right }; words = record { given = g } };
                                             slice-known4 = record
                                                 { given = g' };
                                           };
-                                          t2 = record { given = g'' };
+                                          terms2 = record { given = g'' };
                                         };
                                         slice-known5 = record { given = g'3 };
                                       };
-                                  w2 = record { given = g'4 };
-                                };
+                                      work2 = record
+                                          { given = g'4 };
+                                    };
                                 match2 = record { keys1 = k };
                               };
                               i = record { given = g'5 };
                             };
                             known-told3 = record { given = g'6 };
                           };
-                          close-arg = record
-                              { given = g'7 };
+                          close-arg = record { given = g'7 };
                         },
                         λ g'8. (
                           Path'.refl,
@@ -5124,17 +5127,19 @@ module _ (claims· : Claims) where
                                       before = record {
                                         before = record {
                                           before = record {
-                                            before = record {
-                                              before =
-                                                  record {
-                                                    before = record { before = record { before = c .before; right = c .right }; f = record { given = g } };
-                                                    slice-known4 = record { given = g' };
+                                            before =
+                                                record {
+                                                  before = record {
+                                                    before = record
+                                                        { before = record { before = c .before; right = c .right }; words = record { given = g } };
+                                                    slice-known4 = record
+                                                        { given = g' };
                                                   };
-                                              t2 = record { given = g'' };
-                                            };
+                                                  terms2 = record { given = g'' };
+                                                };
                                             slice-known5 = record { given = g'3 };
                                           };
-                                          w2 = record
+                                          work2 = record
                                               { given = g'4 };
                                         };
                                         match2 = record { keys1 = k };
@@ -5164,25 +5169,26 @@ module _ (claims· : Claims) where
                                               before = record {
                                                 before = record {
                                                   before = record
-                                                      { before = record { before = c .before; right = c .right }; f = record { given = g } };
+                                                      { before = record { before = c .before; right = c .right }; words = record { given = g } };
                                                   slice-known4 = record
                                                       { given = g' };
                                                 };
-                                                t2 = record { given = g'' };
+                                                terms2 = record { given = g'' };
                                               };
                                               slice-known5 = record { given = g'3 };
                                             };
-                                            w2 = record { given = g'4 };
+                                            work2 = record
+                                                { given = g'4 };
                                           };
                                           match2 = record { keys1 = k };
                                         };
                                         i = record { given = g'5 };
                                       };
                                   known-told3 = record { given = g'6 };
-                                } g'7) g'8;
+                                }
+                                    g'7) g'8;
                               };
-                              t3 =
-                                  record { given = g'9 };
+                              terms3 = record { given = g'9 };
                             };
                             slice-known6 = record { given = g'10 };
                           },
@@ -5199,37 +5205,39 @@ module _ (claims· : Claims) where
                           before = record {
                             before = record {
                               before = record
-                                  { before = record { before = c .before; right = c .right }; f = record { given = g } };
+                                  { before = record { before = c .before; right = c .right }; words = record { given = g } };
                               slice-known4 = record
                                   { given = g' };
                             };
-                            t2 = record { given = g'' };
+                            terms2 = record { given = g'' };
                           };
                           slice-known5 = record { given = g'3 };
                         };
-                        w2 = record { given = g'4 };
+                        work2 = record
+                            { given = g'4 };
                       };
                       match2 = record { keys2 = k };
                     },
                     λ g'11. λ g'12. lay5 record {
                       before = record {
                         before = record {
-                          before = record {
-                            before
-                                = record {
+                          before
+                              = record {
+                                before = record {
                                   before = record {
                                     before = record {
                                       before = record
-                                          { before = record { before = c .before; right = c .right }; f = record { given = g } };
+                                          { before = record { before = c .before; right = c .right }; words = record { given = g } };
                                       slice-known4 = record
                                           { given = g' };
                                     };
-                                    t2 = record { given = g'' };
+                                    terms2 = record { given = g'' };
                                   };
                                   slice-known5 = record { given = g'3 };
                                 };
-                            w2 = record { given = g'4 };
-                          };
+                                work2 = record
+                                    { given = g'4 };
+                              };
                           match2 = record { keys2 = k };
                         };
                         s = record { given = g'11 };
@@ -5245,56 +5253,58 @@ module _ (claims· : Claims) where
                             before = record {
                               before = record {
                                 before = record
-                                    { before = record { before = c .before; right = c .right }; f = record { given = g } };
+                                    { before = record { before = c .before; right = c .right }; words = record { given = g } };
                                 slice-known4 = record
                                     { given = g' };
                               };
-                              t2 = record { given = g'' };
+                              terms2 = record { given = g'' };
                             };
                             slice-known5 = record { given = g'3 };
                           };
-                          w2 = record { given = g'4 };
+                          work2 = record
+                              { given = g'4 };
                         };
                         match2 = record { keys3 = k };
                       },
                       λ g'13. λ g'14. lay6 record {
                         before = record {
                           before = record {
-                            before = record {
-                              before
-                                  = record {
+                            before
+                                = record {
+                                  before = record {
                                     before = record {
                                       before = record {
                                         before = record
-                                            { before = record { before = c .before; right = c .right }; f = record { given = g } };
+                                            { before = record { before = c .before; right = c .right }; words = record { given = g } };
                                         slice-known4 = record
                                             { given = g' };
                                       };
-                                      t2 = record { given = g'' };
+                                      terms2 = record { given = g'' };
                                     };
                                     slice-known5 = record { given = g'3 };
                                   };
-                              w2 = record { given = g'4 };
-                            };
+                                  work2 = record
+                                      { given = g'4 };
+                                };
                             match2 = record { keys3 = k };
                           };
                           n2 = record { given = g'13 };
                         };
-                        known-told5 = record { given = g'14 };
+                        known-told5 = record
+                            { given = g'14 };
                       },
                     ),
-                    Match.each-below
-                        3 (λ j. ((Unit {0} × (Run.OneOf (0 ∷ []) j → ⊥)) × (Run.OneOf (1 ∷ []) j → ⊥)) × (Run.OneOf (2 ∷ []) j → ⊥) → ⊥)
-                        (λ n. n .1 Path'.refl, (λ n. n .0 .1 Path'.refl, (λ n. n .0 .0 .1 Path'.refl, tt))) (Declared.tagOf Answer.the-type (Row.get
-                        25 (T65 .locals) (m45 record {
+                    Match.each-below 3 (λ j. ((Unit {0} × (Run.OneOf (0 ∷ []) j → ⊥)) × (Run.OneOf (1 ∷ []) j → ⊥)) ×
+                        (Run.OneOf (2 ∷ []) j → ⊥) → ⊥) (λ n. n .1 Path'.refl, (λ n. n .0 .1 Path'.refl, (λ n. n .0 .0 .1 Path'.refl, tt)))
+                        (Declared.tagOf Answer.the-type (Row.get 25 (T65 .locals) (m45 record {
                           before = record {
                             before = record {
                               before = record
-                                  { before = record { before = c .before; right = c .right }; f = record { given = g } };
+                                  { before = record { before = c .before; right = c .right }; words = record { given = g } };
                               slice-known4 = record
                                   { given = g' };
                             };
-                            t2 = record { given = g'' };
+                            terms2 = record { given = g'' };
                           };
                           slice-known5 = record { given = g'3 };
                         } g'4))) (Match.tag-small
@@ -5302,11 +5312,11 @@ module _ (claims· : Claims) where
                           before = record {
                             before = record {
                               before = record
-                                  { before = record { before = c .before; right = c .right }; f = record { given = g } };
+                                  { before = record { before = c .before; right = c .right }; words = record { given = g } };
                               slice-known4 = record
                                   { given = g' };
                             };
-                            t2 = record { given = g'' };
+                            terms2 = record { given = g'' };
                           };
                           slice-known5 = record { given = g'3 };
                         } g'4))),
@@ -5329,32 +5339,33 @@ module _ (claims· : Claims) where
                   before = record {
                     before = record {
                       before
-                          = record { before = record { before = c .before; body = c .body }; t = record { given = g } };
+                          = record { before = record { before = c .before; body = c .body }; terms = record { given = g } };
                       slice-known3 = record
                           { given = g' };
                     };
-                    w = record { given = g'' };
+                    work = record { given = g'' };
                   };
                   match = record { keys1 = k };
                 },
                 λ g'3. λ g'4. lay7 record {
-                  before = record {
-                    before = record {
-                      before = record {
+                  before =
+                      record {
                         before = record {
-                          before = record
-                              { before = record { before = c .before; body = c .body }; t = record { given = g } };
-                          slice-known3 = record
-                              { given = g' };
+                          before = record {
+                            before = record {
+                              before = record
+                                  { before = record { before = c .before; body = c .body }; terms = record { given = g } };
+                              slice-known3 = record
+                                  { given = g' };
+                            };
+                            work = record { given = g'' };
+                          };
+                          match = record { keys1 = k };
                         };
-                        w = record { given = g'' };
+                        n = record { given = g'3 };
                       };
-                      match = record { keys1 = k };
-                    };
-                    n = record { given = g'3 };
-                  };
-                  known-told =
-                      record { given = g'4 };
+                  known-told
+                      = record { given = g'4 };
                 },
               ),
               (
@@ -5363,11 +5374,11 @@ module _ (claims· : Claims) where
                     before = record {
                       before = record {
                         before = record
-                            { before = record { before = c .before; body = c .body }; t = record { given = g } };
+                            { before = record { before = c .before; body = c .body }; terms = record { given = g } };
                         slice-known3 = record
                             { given = g' };
                       };
-                      w = record { given = g'' };
+                      work = record { given = g'' };
                     };
                     match = record { keys2 = k };
                   },
@@ -5388,56 +5399,52 @@ module _ (claims· : Claims) where
                                           before = record {
                                             before = record {
                                               before = record
-                                                  { before = record { before = c .before; body = c .body }; t = record { given = g } };
+                                                  { before = record { before = c .before; body = c .body }; terms = record { given = g } };
                                               slice-known3 = record
                                                   { given = g' };
                                             };
-                                            w = record { given = g'' };
+                                            work = record { given = g'' };
                                           };
                                           match = record { keys2 = k };
                                         };
                                         s1 = record { given = g'5 };
                                       };
-                                  known-told2 =
-                                      record { given = g'6 };
+                                  known-told2 = record { given = g'6 };
                                 };
                                 right-arg = record { given = g'7 };
                               };
                               right-arg2 = record { given = g'8 };
                             };
-                            right-arg3 = record
-                                { given = g'9 };
+                            right-arg3 = record { given = g'9 };
                           },
                           λ g'10. lay3 record {
                             before = record {
                               before = record {
                                 before = record {
-                                  before = record {
-                                    before =
-                                        record {
+                                  before =
+                                      record {
+                                        before = record {
                                           before = record {
                                             before = record {
                                               before = record {
                                                 before = record
-                                                    { before = record { before = c .before; body = c .body }; t = record { given = g } };
+                                                    { before = record { before = c .before; body = c .body }; terms = record { given = g } };
                                                 slice-known3 = record
                                                     { given = g' };
                                               };
-                                              w = record { given = g'' };
+                                              work = record { given = g'' };
                                             };
                                             match = record { keys2 = k };
                                           };
                                           s1 = record { given = g'5 };
                                         };
-                                    known-told2 =
-                                        record { given = g'6 };
-                                  };
+                                        known-told2 = record { given = g'6 };
+                                      };
                                   right-arg = record { given = g'7 };
                                 };
                                 right-arg2 = record { given = g'8 };
                               };
-                              right-arg3 = record
-                                  { given = g'9 };
+                              right-arg3 = record { given = g'9 };
                             };
                             right = Called.called ps·2 r·2 (claims· .5) T51 (
                               record
@@ -5467,23 +5474,23 @@ module _ (claims· : Claims) where
                                       before = record {
                                         before = record {
                                           before =
-                                              record { before = record { before = c .before; body = c .body }; t = record { given = g } };
+                                              record { before = record { before = c .before; body = c .body }; terms = record { given = g } };
                                           slice-known3 = record
                                               { given = g' };
                                         };
-                                        w = record { given = g'' };
+                                        work = record { given = g'' };
                                       };
                                       match = record { keys2 = k };
                                     };
                                     s1 = record { given = g'5 };
                                   };
-                                  known-told2 =
-                                      record { given = g'6 };
+                                  known-told2 = record { given = g'6 };
                                 };
                                 right-arg = record { given = g'7 };
                               };
                               right-arg2 = record { given = g'8 };
-                            } g'9) g'10;
+                            } g'9)
+                                g'10;
                           },
                         ),
                       ),
@@ -5492,15 +5499,15 @@ module _ (claims· : Claims) where
                 ),
                 Match.each-below 2 (λ j. (Unit {0} × (Run.OneOf (1 ∷ []) j → ⊥)) × (Run.OneOf (0 ∷ []) j → ⊥) → ⊥)
                     (λ n. n .0 .1 Path'.refl, (λ n. n .1 Path'.refl, tt)) (Declared.tagOf Ready.the-type (Row.get 17 (T27 .locals) (m17 record {
-                      before = record { before = record { before = c .before; body = c .body }; t = record { given = g } };
+                      before = record { before = record { before = c .before; body = c .body }; terms = record { given = g } };
                       slice-known3 =
                           record { given = g' };
                     } g''))) (Match.tag-small Ready.the-type (Row.get 17 (T27 .locals) (m17 record {
                       before = record
-                          { before = record { before = c .before; body = c .body }; t = record { given = g } };
-                      slice-known3 = record { given = g' };
-                    }
-                    g''))),
+                          { before = record { before = c .before; body = c .body }; terms = record { given = g } };
+                      slice-known3 = record
+                          { given = g' };
+                    } g''))),
               ),
             ),
           ),
@@ -5593,23 +5600,24 @@ module _ (claims· : Claims) where
           asked = λ a good pre bs. laid record {
             κs = κs;
             args = record {
-              f = a .0;
-              t = a .1 .0;
-              w = a .1 .1 .0;
-              k = a .1 .1 .1 .0;
-              m =
-                  a .1 .1 .1 .1 .0;
-              st = a .1 .1 .1 .1 .1 .0;
-              q = a .1 .1 .1 .1 .1 .1 .0;
+              words = a .0;
+              terms = a .1 .0;
+              work = a .1 .1 .0;
+              names = a .1
+                  .1 .1 .0;
+              limits = a .1 .1 .1 .1 .0;
+              state = a .1 .1 .1 .1 .1 .0;
+              sequent = a .1 .1 .1 .1 .1 .1 .0;
             };
             good = good;
-            pre = pre;
+            pre =
+                pre;
           }
 
         module _ {M : Type 1} (𝓤 : URA.URA M) (H : Wp.Heap 𝓤) (A : Atoms.Atoms 𝓤) (W : Kit.Given 𝓤 H A) (𝓣 : Wp.Tables 𝓤 H) (known0 :
             Plain.Known 𝓤 H A W 𝓣 1 ps·0 r·0 (claims· .0) (claims· .1) "identifier_generator::fresh") (known1 : Plain.Known 𝓤 H A W 𝓣 3
-            ps·1 r·1 (claims· .2) (claims· .3) "premises::body") (known2 : Plain.Known 𝓤 H A W 𝓣 4 ps·2 r·2 (claims· .4) (claims· .5)
-            "prove::right") (known3 : Plain.Known 𝓤 H A W 𝓣 1 ps·3 r·3 (claims· .6) (claims· .7) "rules::close") where
+            ps·1 r·1 (claims· .2) (claims· .3) "search_premises::body") (known2 : Plain.Known 𝓤 H A W 𝓣 4 ps·2 r·2 (claims· .4) (claims·
+            .5) "prove::right") (known3 : Plain.Known 𝓤 H A W 𝓣 1 ps·3 r·3 (claims· .6) (claims· .7) "search_left::close") where
           pub spec : Statement.Triple 𝓤 (Wp.WpFn 𝓤 H (𝓣 .C) (𝓣 .Λ) (Function.fnOf 4 ps r xs m hs body)) (Function.plainOf 𝓤 H A 4 ps r
               Pre· Post·)
           spec = Plain.t-fn-plain 𝓤 H A W 𝓣 4 ps r xs m hs body (λ κs qs bs. Φ) (λ κs qs bs bd. typed κs qs 𝓤 H A W 𝓣

@@ -1,14 +1,14 @@
 -- Made by tools/records.py from the sources; antt refuses it where it is stale. Assumes nothing.
 use Prim.Native.Nat
-use Rattle.context.proofs.Answer
-use Rattle.context.proofs.Answer.Laws
 use Rattle.context.proofs.Element
-use Rattle.context.proofs.Limits
-use Rattle.context.proofs.Limits.Laws as Laws'
-use Rattle.context.proofs.Sequent
-use Rattle.context.proofs.Sequent.Laws as Laws''
-use Rattle.context.proofs.State
-use Rattle.context.proofs.State.Laws as Laws'3
+use Rattle.meter.proofs.Answer
+use Rattle.meter.proofs.Answer.Laws
+use Rattle.meter.proofs.Limits
+use Rattle.meter.proofs.Limits.Laws as Laws'
+use Rattle.meter.proofs.Sequent
+use Rattle.meter.proofs.Sequent.Laws as Laws''
+use Rattle.meter.proofs.State
+use Rattle.meter.proofs.State.Laws as Laws'3
 use borrow.Author.Called
 use borrow.Author.Tests
 use borrow.Enum.Known
@@ -76,8 +76,8 @@ abbrev y0 : Syntax.Ty
 y0 = Syntax.tyInt Syntax.w64
 
 abbrev y1 : Syntax.Ty
-y1 = Syntax.tyStruct (99 ∷ 111 ∷ 110 ∷ 116 ∷ 101 ∷ 120 ∷ 116 ∷ 58 ∷ 58 ∷ 83 ∷ 116 ∷ 97 ∷ 116 ∷ 101 ∷ []) (Syntax.tcons y0 (Syntax.tcons
-    y0 (Syntax.tcons y0 (Syntax.tcons y0 Syntax.tnil))))
+y1 = Syntax.tyStruct (109 ∷ 101 ∷ 116 ∷ 101 ∷ 114 ∷ 58 ∷ 58 ∷ 83 ∷ 116 ∷ 97 ∷ 116 ∷ 101 ∷ []) (Syntax.tcons y0 (Syntax.tcons y0
+    (Syntax.tcons y0 (Syntax.tcons y0 Syntax.tnil))))
 
 abbrev y2 : Syntax.Ty
 y2 = Syntax.tyInt Syntax.w32
@@ -110,9 +110,9 @@ abbrev y11 : Syntax.Ty
 y11 = Syntax.tyStruct (38 ∷ 91 ∷ 93 ∷ []) (Syntax.tcons y10 (Syntax.tcons y0 Syntax.tnil))
 
 abbrev y12 : Syntax.Ty
-y12 = Syntax.tyEnum (99 ∷ 111 ∷ 110 ∷ 116 ∷ 101 ∷ 120 ∷ 116 ∷ 58 ∷ 58 ∷ 65 ∷ 110 ∷ 115 ∷ 119 ∷ 101 ∷ 114 ∷ []) (Syntax.ttcons
-    (Syntax.tcons y0 (Syntax.tcons y1 Syntax.tnil)) (Syntax.ttcons (Syntax.tcons y1 Syntax.tnil) (Syntax.ttcons (Syntax.tcons y0
-    (Syntax.tcons y1 Syntax.tnil)) Syntax.ttnil)))
+y12 = Syntax.tyEnum (109 ∷ 101 ∷ 116 ∷ 101 ∷ 114 ∷ 58 ∷ 58 ∷ 65 ∷ 110 ∷ 115 ∷ 119 ∷ 101 ∷ 114 ∷ []) (Syntax.ttcons (Syntax.tcons y0
+    (Syntax.tcons y1 Syntax.tnil)) (Syntax.ttcons (Syntax.tcons y1 Syntax.tnil) (Syntax.ttcons (Syntax.tcons y0 (Syntax.tcons y1
+    Syntax.tnil)) Syntax.ttnil)))
 
 abbrev y13 : Row.Entry
 y13 = (0, Rows.any-gone y12)
@@ -259,8 +259,8 @@ abbrev y60 : Row.Entry
 y60 = (0, Rows.whole (Declared.row Answer.the-type))
 
 abbrev y61 : Syntax.Ty
-y61 = Syntax.tyStruct (99 ∷ 111 ∷ 110 ∷ 116 ∷ 101 ∷ 120 ∷ 116 ∷ 58 ∷ 58 ∷ 76 ∷ 105 ∷ 109 ∷ 105 ∷ 116 ∷ 115 ∷ []) (Syntax.tcons y0
-    (Syntax.tcons y0 (Syntax.tcons y0 (Syntax.tcons y0 Syntax.tnil))))
+y61 = Syntax.tyStruct (109 ∷ 101 ∷ 116 ∷ 101 ∷ 114 ∷ 58 ∷ 58 ∷ 76 ∷ 105 ∷ 109 ∷ 105 ∷ 116 ∷ 115 ∷ []) (Syntax.tcons y0 (Syntax.tcons y0
+    (Syntax.tcons y0 (Syntax.tcons y0 Syntax.tnil))))
 
 abbrev y62 : Row.Entry
 y62 = (5, Rows.any-gone y61)
@@ -269,7 +269,7 @@ abbrev y63 : Row.Entry
 y63 = (6, Rows.any-gone y1)
 
 abbrev y64 : Syntax.Ty
-y64 = Syntax.tyStruct (99 ∷ 111 ∷ 110 ∷ 116 ∷ 101 ∷ 120 ∷ 116 ∷ 58 ∷ 58 ∷ 83 ∷ 101 ∷ 113 ∷ 117 ∷ 101 ∷ 110 ∷ 116 ∷ []) (Syntax.tcons y0
+y64 = Syntax.tyStruct (109 ∷ 101 ∷ 116 ∷ 101 ∷ 114 ∷ 58 ∷ 58 ∷ 83 ∷ 101 ∷ 113 ∷ 117 ∷ 101 ∷ 110 ∷ 116 ∷ []) (Syntax.tcons y0
     (Syntax.tcons y0 (Syntax.tcons y0 (Syntax.tcons y0 Syntax.tnil))))
 
 abbrev y65 : Row.Entry
@@ -992,9 +992,9 @@ b34 = Syntax.assign (Syntax.place 35 []) (Syntax.aggregate ((Syntax.copy (Syntax
     ((Syntax.field 1) ∷ []))) ∷ []))
 
 abbrev b35 : Syntax.Body
-b35 = Syntax.call "rules::close" ((Syntax.copy (Syntax.place 35 [])) ∷ (Syntax.copy (Syntax.place 5 [])) ∷ (Syntax.copy (Syntax.place 10
-    [])) ∷ (Syntax.int Syntax.w64 7) ∷ (Syntax.copy (Syntax.place 9 [])) ∷ (Syntax.int Syntax.w64 0) ∷ (Syntax.int Syntax.w64 0) ∷
-    (Syntax.int Syntax.w64 0) ∷ (Syntax.int Syntax.w64 0) ∷ []) (Syntax.place 33 [])
+b35 = Syntax.call "search_left::close" ((Syntax.copy (Syntax.place 35 [])) ∷ (Syntax.copy (Syntax.place 5 [])) ∷ (Syntax.copy
+    (Syntax.place 10 [])) ∷ (Syntax.int Syntax.w64 7) ∷ (Syntax.copy (Syntax.place 9 [])) ∷ (Syntax.int Syntax.w64 0) ∷ (Syntax.int
+    Syntax.w64 0) ∷ (Syntax.int Syntax.w64 0) ∷ (Syntax.int Syntax.w64 0) ∷ []) (Syntax.place 33 [])
 
 abbrev b36 : Syntax.Body
 b36 = Syntax.seq b34 b35
@@ -1033,8 +1033,7 @@ b46 = Syntax.assign (Syntax.place 41 []) (Syntax.aggregate ((Syntax.copy (Syntax
     ((Syntax.field 1) ∷ []))) ∷ []))
 
 abbrev b47 : Syntax.Body
-b47 = Syntax.call "context::give_back" ((Syntax.copy (Syntax.place 6 [])) ∷ (Syntax.copy (Syntax.place 11 [])) ∷ []) (Syntax.place 42
-    [])
+b47 = Syntax.call "meter::give_back" ((Syntax.copy (Syntax.place 6 [])) ∷ (Syntax.copy (Syntax.place 11 [])) ∷ []) (Syntax.place 42 [])
 
 abbrev b48 : Syntax.Body
 b48 = Syntax.call "prove::second_half" ((Syntax.copy (Syntax.place 37 [])) ∷ (Syntax.copy (Syntax.place 39 [])) ∷ (Syntax.copy
@@ -2144,8 +2143,8 @@ module _ (claims· : Claims) where
           W 𝓣 1 ps·0 r·0 (claims· .0) (claims· .1) "formula::kind") (known1 : Plain.Known 𝓤 H A W 𝓣 4 ps·1 r·1 (claims· .2) (claims· .3)
           "prove::positions") (known2 : Plain.Known 𝓤 H A W 𝓣 1 ps·2 r·2 (claims· .4) (claims· .5) "formula::left") (known3 :
           Plain.Known 𝓤 H A W 𝓣 4 ps·3 r·3 (claims· .6) (claims· .7) "prove::premise") (known4 : Plain.Known 𝓤 H A W 𝓣 1 ps·4 r·4
-          (claims· .8) (claims· .9) "rules::close") (known5 : Plain.Known 𝓤 H A W 𝓣 0 ps·5 r·5 (claims· .10) (claims· .11)
-          "context::give_back") (known6 : Plain.Known 𝓤 H A W 𝓣 4 ps·6 r·6 (claims· .12) (claims· .13) "prove::second_half") →
+          (claims· .8) (claims· .9) "search_left::close") (known5 : Plain.Known 𝓤 H A W 𝓣 0 ps·5 r·5 (claims· .10) (claims· .11)
+          "meter::give_back") (known6 : Plain.Known 𝓤 H A W 𝓣 4 ps·6 r·6 (claims· .12) (claims· .13) "prove::second_half") →
           Statement.Triple 𝓤 (Wp.WpFn 𝓤 H (𝓣 .C) (𝓣 .Λ) (Function.fnOf 4 ps r xs m hs body)) (Function.plainOf 𝓤 H A 4 ps r Pre· Post·)
 
     module _ where
@@ -2505,7 +2504,7 @@ module _ (claims· : Claims) where
         Knowns = Plain.Known 𝓤 H A W 𝓣 1 ps·0 r·0 (claims· .0) (claims· .1) "formula::kind" × Plain.Known 𝓤 H A W 𝓣 4 ps·1 r·1 (claims·
             .2) (claims· .3) "prove::positions" × Plain.Known 𝓤 H A W 𝓣 1 ps·2 r·2 (claims· .4) (claims· .5) "formula::left" ×
             Plain.Known 𝓤 H A W 𝓣 4 ps·3 r·3 (claims· .6) (claims· .7) "prove::premise" × Plain.Known 𝓤 H A W 𝓣 1 ps·4 r·4 (claims· .8)
-            (claims· .9) "rules::close" × Plain.Known 𝓤 H A W 𝓣 0 ps·5 r·5 (claims· .10) (claims· .11) "context::give_back" ×
+            (claims· .9) "search_left::close" × Plain.Known 𝓤 H A W 𝓣 0 ps·5 r·5 (claims· .10) (claims· .11) "meter::give_back" ×
             Plain.Known 𝓤 H A W 𝓣 4 ps·6 r·6 (claims· .12) (claims· .13) "prove::second_half"
 
       module _ (κs : Lifetimes.Lfts 4) (qs : Lifetimes.Shares 4) where
@@ -3786,9 +3785,8 @@ module _ (claims· : Claims) where
               Ψ) (Typed.g-post 𝓤 H A W 𝓣 E G81 G84 G85 b35 (λ Ψ. Typed.both s78 (Typed.pass T82 T83 s79 (Typed.pass T83 T84 s80 Ψ)))
               (Typed.pass T84 T85 s81) (Typed.g-post 𝓤 H A W 𝓣 E G81 G83 G84 b35 (λ Ψ. Typed.both s78 (Typed.pass T82 T83 s79 Ψ))
               (Typed.pass T83 T84 s80) (Typed.g-post 𝓤 H A W 𝓣 E G81 G82 G83 b35 (Typed.both s78) (Typed.pass T82 T83 s79)
-              (Plain.t-call-plain 𝓤 H A W 𝓣 1 ps·4 r·4 (claims· .8) (claims· .9) "rules::close" (known .4) E (λ pos β. β) G81 (
-                record
-                    { pos = 35; ty = Syntax.tyRef Syntax.erased Syntax.mut y7; ref = λ x. x },
+              (Plain.t-call-plain 𝓤 H A W 𝓣 1 ps·4 r·4 (claims· .8) (claims· .9) "search_left::close" (known .4) E (λ pos β. β) G81 (
+                record { pos = 35; ty = Syntax.tyRef Syntax.erased Syntax.mut y7; ref = λ x. x },
                 (
                   record
                       { pos = 5; st = []; d = 0; at = λ x. x },
@@ -4108,7 +4106,7 @@ module _ (claims· : Claims) where
 
           d44 : Typed.Typed 𝓤 H A 𝓣 E G102 b49 Δ2 at44
           d44 = Typed.s-seq 𝓤 H A W 𝓣 E G102 G103 b47 b48 Δ2 (Typed.both s99) at43 (Plain.t-call-plain 𝓤 H A W 𝓣 0 ps·5 r·5 (claims·
-              .10) (claims· .11) "context::give_back" (known .5) E (λ pos β. β) G102
+              .10) (claims· .11) "meter::give_back" (known .5) E (λ pos β. β) G102
               (record { pos = 6; st = []; d = 0; at = λ x. x }, (record { pos = 11; st = []; d = 0; at = λ x. x }, tt)) 42 []
               (Call.sub-id 𝓤 H A W (G102 .slots)) (
                 (
@@ -5272,31 +5270,32 @@ module _ (claims· : Claims) where
 
       module _ (κs : Lifetimes.Lfts 4) where
         pub record Args : Type 0 where
-          pub f : Kinds.Den {n = 4} κs (MutSlice.pMutS (Referent.rtF (Referent.fInt Syntax.w32)) 0 tt)
-          pub t : Kinds.Den {n = 4} κs (MutSlice.pMutS (Referent.rtF (Referent.fInt Syntax.w16)) 1 tt)
-          pub w : Kinds.Den {n = 4} κs (MutSlice.pMutS Element.row 2 tt)
-          pub k : Kinds.Den {n = 4} κs (ShrSlice.pShrS (Referent.rtF (Referent.fInt Syntax.w8)) 3 tt)
-          pub m : Kinds.Den {n = 4} κs (Value.pVal record {
+          pub words : Kinds.Den {n = 4} κs (MutSlice.pMutS (Referent.rtF (Referent.fInt Syntax.w32)) 0 tt)
+          pub terms : Kinds.Den {n = 4} κs (MutSlice.pMutS (Referent.rtF (Referent.fInt Syntax.w16)) 1 tt)
+          pub work : Kinds.Den {n = 4} κs (MutSlice.pMutS Element.row 2 tt)
+          pub names : Kinds.Den {n = 4} κs (ShrSlice.pShrS (Referent.rtF (Referent.fInt Syntax.w8)) 3 tt)
+          pub limits : Kinds.Den {n = 4} κs (Value.pVal record {
             ty = Declared'.row Limits.the-type;
             one = Path'.refl;
-            val = Laws'5.val
-                Limits.the-type Laws'.the-laws;
+            val =
+                Laws'5.val Limits.the-type Laws'.the-laws;
             tells = Laws'5.tells Limits.the-type Laws'.the-laws;
-            still = Laws'5.still Limits.the-type
-                Laws'.the-copy Exit.yes;
+            still = Laws'5.still
+                Limits.the-type Laws'.the-copy Exit.yes;
             row = Rows.whole (Declared'.row Limits.the-type);
             rd = λ x. x;
             mk = λ x. x;
-          } λ M 𝓤 H A W. record {
-            copies = Laws'5.copy Limits.the-type Laws'.the-copy 𝓤 H A W;
-            lawful = Laws'5.lawful Limits.the-type Laws'.the-laws 𝓤 H A
-                W;
-            makes = Laws'5.makes Limits.the-type Laws'.the-plain 𝓤 H A;
-            in-mem = Local.mem-whole 𝓤 H A W (Declared'.row
-                Limits.the-type);
-            of-mem = Local.whole-mem 𝓤 H A W (Declared'.row Limits.the-type);
-          })
-          pub st : Kinds.Den {n = 4} κs (Value.pVal record {
+          } λ M
+              𝓤 H A W. record {
+                copies = Laws'5.copy Limits.the-type Laws'.the-copy 𝓤 H A W;
+                lawful = Laws'5.lawful Limits.the-type
+                    Laws'.the-laws 𝓤 H A W;
+                makes = Laws'5.makes Limits.the-type Laws'.the-plain 𝓤 H A;
+                in-mem = Local.mem-whole 𝓤 H A W
+                    (Declared'.row Limits.the-type);
+                of-mem = Local.whole-mem 𝓤 H A W (Declared'.row Limits.the-type);
+              })
+          pub state : Kinds.Den {n = 4} κs (Value.pVal record {
             ty = Declared'.row State.the-type;
             one = Path'.refl;
             val = Laws'5.val
@@ -5316,11 +5315,11 @@ module _ (claims· : Claims) where
                 State.the-type);
             of-mem = Local.whole-mem 𝓤 H A W (Declared'.row State.the-type);
           })
-          pub q : Kinds.Den {n = 4} κs (Value.pVal record {
+          pub sequent : Kinds.Den {n = 4} κs (Value.pVal record {
             ty = Declared'.row Sequent.the-type;
             one = Path'.refl;
-            val = Laws'5.val
-                Sequent.the-type Laws''.the-laws;
+            val =
+                Laws'5.val Sequent.the-type Laws''.the-laws;
             tells = Laws'5.tells Sequent.the-type Laws''.the-laws;
             still = Laws'5.still
                 Sequent.the-type Laws''.the-copy Exit.yes;
@@ -5339,7 +5338,7 @@ module _ (claims· : Claims) where
               })
 
         abbrev pub dens : (a : Args) → Kinds.Dens κs ps
-        dens = λ a. (a .f, (a .t, (a .w, (a .k, (a .m, (a .st, (a .q, tt)))))))
+        dens = λ a. (a .words, (a .terms, (a .work, (a .names, (a .limits, (a .state, (a .sequent, tt)))))))
 
       abbrev pub m0 : (κs : Lifetimes.Lfts 4) → (args : Args κs) → Typed.Mo T0
       m0 = λ κs args. (tt, Enter.partsP κs 1 ps xs (dens κs args))
@@ -5586,22 +5585,22 @@ module _ (claims· : Claims) where
       m22 = λ before given. s28 .next (m21 (before .before) (After-positions·gave before)) given
 
       module _ (before· : After-positions) where
-        pub record After-f·own : Type 0 where
+        pub record After-words·own : Type 0 where
           pub given : s28 .gives (m21 (before· .before) (After-positions·gave before·))
 
-      pub record After-f : Type 0 where
+      pub record After-words : Type 0 where
         pub before : After-positions
-        pub f : After-f·own before
+        pub words : After-words·own before
 
-      abbrev pub m23 : (before : After-f) → (given : s29 .gives (m22 (before .before) (before .f .given))) → Typed.Mo T32
-      m23 = λ before given. s29 .next (m22 (before .before) (before .f .given)) given
+      abbrev pub m23 : (before : After-words) → (given : s29 .gives (m22 (before .before) (before .words .given))) → Typed.Mo T32
+      m23 = λ before given. s29 .next (m22 (before .before) (before .words .given)) given
 
-      module _ (before· : After-f) where
+      module _ (before· : After-words) where
         pub record After-slice-known3·own : Type 0 where
-          pub given : s29 .gives (m22 (before· .before) (before· .f .given))
+          pub given : s29 .gives (m22 (before· .before) (before· .words .given))
 
       pub record After-slice-known3 : Type 0 where
-        pub before : After-f
+        pub before : After-words
         pub slice-known3 : After-slice-known3·own before
 
       abbrev pub m24 : (before : After-slice-known3) → (given : s32 .gives (m23 (before .before) (before .slice-known3 .given))) →
@@ -5609,22 +5608,22 @@ module _ (claims· : Claims) where
       m24 = λ before given. s32 .next (m23 (before .before) (before .slice-known3 .given)) given
 
       module _ (before· : After-slice-known3) where
-        pub record After-t·own : Type 0 where
+        pub record After-terms·own : Type 0 where
           pub given : s32 .gives (m23 (before· .before) (before· .slice-known3 .given))
 
-      pub record After-t : Type 0 where
+      pub record After-terms : Type 0 where
         pub before : After-slice-known3
-        pub t : After-t·own before
+        pub terms : After-terms·own before
 
-      abbrev pub m25 : (before : After-t) → (given : s33 .gives (m24 (before .before) (before .t .given))) → Typed.Mo T36
-      m25 = λ before given. s33 .next (m24 (before .before) (before .t .given)) given
+      abbrev pub m25 : (before : After-terms) → (given : s33 .gives (m24 (before .before) (before .terms .given))) → Typed.Mo T36
+      m25 = λ before given. s33 .next (m24 (before .before) (before .terms .given)) given
 
-      module _ (before· : After-t) where
+      module _ (before· : After-terms) where
         pub record After-slice-known4·own : Type 0 where
-          pub given : s33 .gives (m24 (before· .before) (before· .t .given))
+          pub given : s33 .gives (m24 (before· .before) (before· .terms .given))
 
       pub record After-slice-known4 : Type 0 where
-        pub before : After-t
+        pub before : After-terms
         pub slice-known4 : After-slice-known4·own before
 
       abbrev pub m26 : (before : After-slice-known4) → (given : s36 .gives (m25 (before .before) (before .slice-known4 .given))) →
@@ -5632,37 +5631,37 @@ module _ (claims· : Claims) where
       m26 = λ before given. s36 .next (m25 (before .before) (before .slice-known4 .given)) given
 
       module _ (before· : After-slice-known4) where
-        pub record After-w·own : Type 0 where
+        pub record After-work·own : Type 0 where
           pub given : s36 .gives (m25 (before· .before) (before· .slice-known4 .given))
 
-      pub record After-w : Type 0 where
+      pub record After-work : Type 0 where
         pub before : After-slice-known4
-        pub w : After-w·own before
+        pub work : After-work·own before
 
       abbrev pub Need-same-length : Type 0
-      Need-same-length = (c : After-w) → MutSlice.SameLen (Row.get 1 (T39 .locals) (m26 (c .before) (c .w .given))) (dens (c .before
-          .before .before .before .before .before .before .before .before .before .before .before .before .before .before .κs) (c
-          .before .before .before .before .before .before .before .before .before .before .before .before .before .before .before .args)
-          .0)
+      Need-same-length = (c : After-work) → MutSlice.SameLen (Row.get 1 (T39 .locals) (m26 (c .before) (c .work .given))) (dens (c
+          .before .before .before .before .before .before .before .before .before .before .before .before .before .before .before .κs)
+          (c .before .before .before .before .before .before .before .before .before .before .before .before .before .before .before
+          .args) .0)
 
       abbrev pub Need-same-length-2 : Type 0
-      Need-same-length-2 = (c : After-w) → MutSlice.SameLen (Row.get 2 (T39 .locals) (m26 (c .before) (c .w .given))) (dens (c .before
-          .before .before .before .before .before .before .before .before .before .before .before .before .before .before .κs) (c
-          .before .before .before .before .before .before .before .before .before .before .before .before .before .before .before .args)
-          .1 .0)
+      Need-same-length-2 = (c : After-work) → MutSlice.SameLen (Row.get 2 (T39 .locals) (m26 (c .before) (c .work .given))) (dens (c
+          .before .before .before .before .before .before .before .before .before .before .before .before .before .before .before .κs)
+          (c .before .before .before .before .before .before .before .before .before .before .before .before .before .before .before
+          .args) .1 .0)
 
       abbrev pub Need-same-length-3 : Type 0
-      Need-same-length-3 = (c : After-w) → MutSlice.SameLen (Row.get 3 (T39 .locals) (m26 (c .before) (c .w .given))) (dens (c .before
-          .before .before .before .before .before .before .before .before .before .before .before .before .before .before .κs) (c
-          .before .before .before .before .before .before .before .before .before .before .before .before .before .before .before .args)
-          .1 .1 .0)
+      Need-same-length-3 = (c : After-work) → MutSlice.SameLen (Row.get 3 (T39 .locals) (m26 (c .before) (c .work .given))) (dens (c
+          .before .before .before .before .before .before .before .before .before .before .before .before .before .before .before .κs)
+          (c .before .before .before .before .before .before .before .before .before .before .before .before .before .before .before
+          .args) .1 .1 .0)
 
       abbrev pub Need-returns : Type 0
-      Need-returns = (c : After-w) → Post· (c .before .before .before .before .before .before .before .before .before .before .before
+      Need-returns = (c : After-work) → Post· (c .before .before .before .before .before .before .before .before .before .before .before
           .before .before .before .before .κs) (dens (c .before .before .before .before .before .before .before .before .before .before
           .before .before .before .before .before .κs) (c .before .before .before .before .before .before .before .before .before
           .before .before .before .before .before .before .args)) (Function.resV r (c .before .before .before .before .before .before
-          .before .before .before .before .before .before .before .before .before .κs) (m26 (c .before) (c .w .given) .0))
+          .before .before .before .before .before .before .before .before .before .κs) (m26 (c .before) (c .work .given) .0))
           (Clauses.atExit (Kinds.endedOf 4 ps r) (c .before .before .before .before .before .before .before .before .before .before
           .before .before .before .before .before .κs) (dens (c .before .before .before .before .before .before .before .before .before
           .before .before .before .before .before .before .κs) (c .before .before .before .before .before .before .before .before
@@ -5670,7 +5669,7 @@ module _ (claims· : Claims) where
           .before .before .before .before .before .before .before .before .before .before .κs) 1 ps xs (dens (c .before .before .before
           .before .before .before .before .before .before .before .before .before .before .before .before .κs) (c .before .before
           .before .before .before .before .before .before .before .before .before .before .before .before .before .args)) (m26 (c
-          .before) (c .w .given) .1)))
+          .before) (c .work .given) .1)))
 
       module _ (before· : After-kind) where
         pub record Else1·own : Type 0 where
@@ -5853,22 +5852,22 @@ module _ (claims· : Claims) where
       m40 = λ before given. s58 .next (m39 (before .before) (After-premise·gave before)) given
 
       module _ (before· : After-premise) where
-        pub record After-f2·own : Type 0 where
+        pub record After-words2·own : Type 0 where
           pub given : s58 .gives (m39 (before· .before) (After-premise·gave before·))
 
-      pub record After-f2 : Type 0 where
+      pub record After-words2 : Type 0 where
         pub before : After-premise
-        pub f2 : After-f2·own before
+        pub words2 : After-words2·own before
 
-      abbrev pub m41 : (before : After-f2) → (given : s59 .gives (m40 (before .before) (before .f2 .given))) → Typed.Mo T63
-      m41 = λ before given. s59 .next (m40 (before .before) (before .f2 .given)) given
+      abbrev pub m41 : (before : After-words2) → (given : s59 .gives (m40 (before .before) (before .words2 .given))) → Typed.Mo T63
+      m41 = λ before given. s59 .next (m40 (before .before) (before .words2 .given)) given
 
-      module _ (before· : After-f2) where
+      module _ (before· : After-words2) where
         pub record After-slice-known5·own : Type 0 where
-          pub given : s59 .gives (m40 (before· .before) (before· .f2 .given))
+          pub given : s59 .gives (m40 (before· .before) (before· .words2 .given))
 
       pub record After-slice-known5 : Type 0 where
-        pub before : After-f2
+        pub before : After-words2
         pub slice-known5 : After-slice-known5·own before
 
       abbrev pub m42 : (before : After-slice-known5) → (given : s62 .gives (m41 (before .before) (before .slice-known5 .given))) →
@@ -5876,22 +5875,22 @@ module _ (claims· : Claims) where
       m42 = λ before given. s62 .next (m41 (before .before) (before .slice-known5 .given)) given
 
       module _ (before· : After-slice-known5) where
-        pub record After-t2·own : Type 0 where
+        pub record After-terms2·own : Type 0 where
           pub given : s62 .gives (m41 (before· .before) (before· .slice-known5 .given))
 
-      pub record After-t2 : Type 0 where
+      pub record After-terms2 : Type 0 where
         pub before : After-slice-known5
-        pub t2 : After-t2·own before
+        pub terms2 : After-terms2·own before
 
-      abbrev pub m43 : (before : After-t2) → (given : s63 .gives (m42 (before .before) (before .t2 .given))) → Typed.Mo T67
-      m43 = λ before given. s63 .next (m42 (before .before) (before .t2 .given)) given
+      abbrev pub m43 : (before : After-terms2) → (given : s63 .gives (m42 (before .before) (before .terms2 .given))) → Typed.Mo T67
+      m43 = λ before given. s63 .next (m42 (before .before) (before .terms2 .given)) given
 
-      module _ (before· : After-t2) where
+      module _ (before· : After-terms2) where
         pub record After-slice-known6·own : Type 0 where
-          pub given : s63 .gives (m42 (before· .before) (before· .t2 .given))
+          pub given : s63 .gives (m42 (before· .before) (before· .terms2 .given))
 
       pub record After-slice-known6 : Type 0 where
-        pub before : After-t2
+        pub before : After-terms2
         pub slice-known6 : After-slice-known6·own before
 
       abbrev pub m44 : (before : After-slice-known6) → (given : s66 .gives (m43 (before .before) (before .slice-known6 .given))) →
@@ -5899,32 +5898,32 @@ module _ (claims· : Claims) where
       m44 = λ before given. s66 .next (m43 (before .before) (before .slice-known6 .given)) given
 
       module _ (before· : After-slice-known6) where
-        pub record After-w2·own : Type 0 where
+        pub record After-work2·own : Type 0 where
           pub given : s66 .gives (m43 (before· .before) (before· .slice-known6 .given))
 
-      pub record After-w2 : Type 0 where
+      pub record After-work2 : Type 0 where
         pub before : After-slice-known6
-        pub w2 : After-w2·own before
+        pub work2 : After-work2·own before
 
-      module _ (before· : After-w2) where
+      module _ (before· : After-work2) where
         pub record At-match-keys1·own : Type 0 where
-          pub keys1 : Run.OneOf (0 ∷ []) (Declared.tagOf Answer.the-type (Row.get 26 (T70 .locals) (m44 (before· .before) (before· .w2
-              .given))))
+          pub keys1 : Run.OneOf (0 ∷ []) (Declared.tagOf Answer.the-type (Row.get 26 (T70 .locals) (m44 (before· .before) (before·
+              .work2 .given))))
 
       pub record At-match-keys1 : Type 0 where
-        pub before : After-w2
+        pub before : After-work2
         pub match : At-match-keys1·own before
 
       abbrev pub Need-enum-known-i : Type 0
-      Need-enum-known-i = (c : At-match-keys1) → s68 .asks (m44 (c .before .before) (c .before .w2 .given))
+      Need-enum-known-i = (c : At-match-keys1) → s68 .asks (m44 (c .before .before) (c .before .work2 .given))
 
-      abbrev pub m45 : (before : At-match-keys1) → (given : s68 .gives (m44 (before .before .before) (before .before .w2 .given))) →
+      abbrev pub m45 : (before : At-match-keys1) → (given : s68 .gives (m44 (before .before .before) (before .before .work2 .given))) →
           Typed.Mo T72
-      m45 = λ before given. s68 .next (m44 (before .before .before) (before .before .w2 .given)) given
+      m45 = λ before given. s68 .next (m44 (before .before .before) (before .before .work2 .given)) given
 
       module _ (before· : At-match-keys1) where
         pub record After-i·own : Type 0 where
-          pub given : s68 .gives (m44 (before· .before .before) (before· .before .w2 .given))
+          pub given : s68 .gives (m44 (before· .before .before) (before· .before .work2 .given))
 
       pub record After-i : Type 0 where
         pub before : At-match-keys1
@@ -6028,43 +6027,43 @@ module _ (claims· : Claims) where
       m58 = λ before given. s83 .next (m57 (before .before) (After-close·gave before)) given
 
       module _ (before· : After-close) where
-        pub record After-t3·own : Type 0 where
+        pub record After-terms3·own : Type 0 where
           pub given : s83 .gives (m57 (before· .before) (After-close·gave before·))
 
-      pub record After-t3 : Type 0 where
+      pub record After-terms3 : Type 0 where
         pub before : After-close
-        pub t3 : After-t3·own before
+        pub terms3 : After-terms3·own before
 
-      abbrev pub m59 : (before : After-t3) → (given : s84 .gives (m58 (before .before) (before .t3 .given))) → Typed.Mo T88
-      m59 = λ before given. s84 .next (m58 (before .before) (before .t3 .given)) given
+      abbrev pub m59 : (before : After-terms3) → (given : s84 .gives (m58 (before .before) (before .terms3 .given))) → Typed.Mo T88
+      m59 = λ before given. s84 .next (m58 (before .before) (before .terms3 .given)) given
 
-      module _ (before· : After-t3) where
+      module _ (before· : After-terms3) where
         pub record After-slice-known7·own : Type 0 where
-          pub given : s84 .gives (m58 (before· .before) (before· .t3 .given))
+          pub given : s84 .gives (m58 (before· .before) (before· .terms3 .given))
 
       pub record After-slice-known7 : Type 0 where
-        pub before : After-t3
+        pub before : After-terms3
         pub slice-known7 : After-slice-known7·own before
 
-      module _ (before· : After-w2) where
+      module _ (before· : After-work2) where
         pub record At-match-keys2·own : Type 0 where
-          pub keys2 : Run.OneOf (1 ∷ []) (Declared.tagOf Answer.the-type (Row.get 26 (T70 .locals) (m44 (before· .before) (before· .w2
-              .given))))
+          pub keys2 : Run.OneOf (1 ∷ []) (Declared.tagOf Answer.the-type (Row.get 26 (T70 .locals) (m44 (before· .before) (before·
+              .work2 .given))))
 
       pub record At-match-keys2 : Type 0 where
-        pub before : After-w2
+        pub before : After-work2
         pub match : At-match-keys2·own before
 
       abbrev pub Need-enum-known-s : Type 0
-      Need-enum-known-s = (c : At-match-keys2) → s86 .asks (m44 (c .before .before) (c .before .w2 .given))
+      Need-enum-known-s = (c : At-match-keys2) → s86 .asks (m44 (c .before .before) (c .before .work2 .given))
 
-      abbrev pub m60 : (before : At-match-keys2) → (given : s86 .gives (m44 (before .before .before) (before .before .w2 .given))) →
+      abbrev pub m60 : (before : At-match-keys2) → (given : s86 .gives (m44 (before .before .before) (before .before .work2 .given))) →
           Typed.Mo T90
-      m60 = λ before given. s86 .next (m44 (before .before .before) (before .before .w2 .given)) given
+      m60 = λ before given. s86 .next (m44 (before .before .before) (before .before .work2 .given)) given
 
       module _ (before· : At-match-keys2) where
         pub record After-s·own : Type 0 where
-          pub given : s86 .gives (m44 (before· .before .before) (before· .before .w2 .given))
+          pub given : s86 .gives (m44 (before· .before .before) (before· .before .work2 .given))
 
       pub record After-s : Type 0 where
         pub before : At-match-keys2
@@ -6244,22 +6243,22 @@ module _ (claims· : Claims) where
       m77 = λ before given. s107 .next (m76 (before .before) (After-second-half·gave before)) given
 
       module _ (before· : After-second-half) where
-        pub record After-f3·own : Type 0 where
+        pub record After-words3·own : Type 0 where
           pub given : s107 .gives (m76 (before· .before) (After-second-half·gave before·))
 
-      pub record After-f3 : Type 0 where
+      pub record After-words3 : Type 0 where
         pub before : After-second-half
-        pub f3 : After-f3·own before
+        pub words3 : After-words3·own before
 
-      abbrev pub m78 : (before : After-f3) → (given : s108 .gives (m77 (before .before) (before .f3 .given))) → Typed.Mo T112
-      m78 = λ before given. s108 .next (m77 (before .before) (before .f3 .given)) given
+      abbrev pub m78 : (before : After-words3) → (given : s108 .gives (m77 (before .before) (before .words3 .given))) → Typed.Mo T112
+      m78 = λ before given. s108 .next (m77 (before .before) (before .words3 .given)) given
 
-      module _ (before· : After-f3) where
+      module _ (before· : After-words3) where
         pub record After-slice-known8·own : Type 0 where
-          pub given : s108 .gives (m77 (before· .before) (before· .f3 .given))
+          pub given : s108 .gives (m77 (before· .before) (before· .words3 .given))
 
       pub record After-slice-known8 : Type 0 where
-        pub before : After-f3
+        pub before : After-words3
         pub slice-known8 : After-slice-known8·own before
 
       abbrev pub m79 : (before : After-slice-known8) → (given : s111 .gives (m78 (before .before) (before .slice-known8 .given))) →
@@ -6267,22 +6266,22 @@ module _ (claims· : Claims) where
       m79 = λ before given. s111 .next (m78 (before .before) (before .slice-known8 .given)) given
 
       module _ (before· : After-slice-known8) where
-        pub record After-t4·own : Type 0 where
+        pub record After-terms4·own : Type 0 where
           pub given : s111 .gives (m78 (before· .before) (before· .slice-known8 .given))
 
-      pub record After-t4 : Type 0 where
+      pub record After-terms4 : Type 0 where
         pub before : After-slice-known8
-        pub t4 : After-t4·own before
+        pub terms4 : After-terms4·own before
 
-      abbrev pub m80 : (before : After-t4) → (given : s112 .gives (m79 (before .before) (before .t4 .given))) → Typed.Mo T116
-      m80 = λ before given. s112 .next (m79 (before .before) (before .t4 .given)) given
+      abbrev pub m80 : (before : After-terms4) → (given : s112 .gives (m79 (before .before) (before .terms4 .given))) → Typed.Mo T116
+      m80 = λ before given. s112 .next (m79 (before .before) (before .terms4 .given)) given
 
-      module _ (before· : After-t4) where
+      module _ (before· : After-terms4) where
         pub record After-slice-known9·own : Type 0 where
-          pub given : s112 .gives (m79 (before· .before) (before· .t4 .given))
+          pub given : s112 .gives (m79 (before· .before) (before· .terms4 .given))
 
       pub record After-slice-known9 : Type 0 where
-        pub before : After-t4
+        pub before : After-terms4
         pub slice-known9 : After-slice-known9·own before
 
       abbrev pub m81 : (before : After-slice-known9) → (given : s115 .gives (m80 (before .before) (before .slice-known9 .given))) →
@@ -6290,32 +6289,32 @@ module _ (claims· : Claims) where
       m81 = λ before given. s115 .next (m80 (before .before) (before .slice-known9 .given)) given
 
       module _ (before· : After-slice-known9) where
-        pub record After-w3·own : Type 0 where
+        pub record After-work3·own : Type 0 where
           pub given : s115 .gives (m80 (before· .before) (before· .slice-known9 .given))
 
-      pub record After-w3 : Type 0 where
+      pub record After-work3 : Type 0 where
         pub before : After-slice-known9
-        pub w3 : After-w3·own before
+        pub work3 : After-work3·own before
 
-      module _ (before· : After-w2) where
+      module _ (before· : After-work2) where
         pub record At-match-keys3·own : Type 0 where
-          pub keys3 : Run.OneOf (2 ∷ []) (Declared.tagOf Answer.the-type (Row.get 26 (T70 .locals) (m44 (before· .before) (before· .w2
-              .given))))
+          pub keys3 : Run.OneOf (2 ∷ []) (Declared.tagOf Answer.the-type (Row.get 26 (T70 .locals) (m44 (before· .before) (before·
+              .work2 .given))))
 
       pub record At-match-keys3 : Type 0 where
-        pub before : After-w2
+        pub before : After-work2
         pub match : At-match-keys3·own before
 
       abbrev pub Need-enum-known-n : Type 0
-      Need-enum-known-n = (c : At-match-keys3) → s117 .asks (m44 (c .before .before) (c .before .w2 .given))
+      Need-enum-known-n = (c : At-match-keys3) → s117 .asks (m44 (c .before .before) (c .before .work2 .given))
 
-      abbrev pub m82 : (before : At-match-keys3) → (given : s117 .gives (m44 (before .before .before) (before .before .w2 .given))) →
+      abbrev pub m82 : (before : At-match-keys3) → (given : s117 .gives (m44 (before .before .before) (before .before .work2 .given))) →
           Typed.Mo T121
-      m82 = λ before given. s117 .next (m44 (before .before .before) (before .before .w2 .given)) given
+      m82 = λ before given. s117 .next (m44 (before .before .before) (before .before .work2 .given)) given
 
       module _ (before· : At-match-keys3) where
         pub record After-n·own : Type 0 where
-          pub given : s117 .gives (m44 (before· .before .before) (before· .before .w2 .given))
+          pub given : s117 .gives (m44 (before· .before .before) (before· .before .work2 .given))
 
       pub record After-n : Type 0 where
         pub before : At-match-keys3
@@ -6359,13 +6358,13 @@ module _ (claims· : Claims) where
         pub before : After-n
         pub known-told3 : After-known-told3·own before
 
-      abbrev pub m93 : (before : After-t3) → (given : s84 .gives (m58 (before .before) (before .t3 .given))) → Typed.Mo T132
+      abbrev pub m93 : (before : After-terms3) → (given : s84 .gives (m58 (before .before) (before .terms3 .given))) → Typed.Mo T132
       m93 = λ before given. s128 (m59 before given)
 
-      abbrev pub m94 : (before : After-t3) → (given : s84 .gives (m58 (before .before) (before .t3 .given))) → Typed.Mo T133
+      abbrev pub m94 : (before : After-terms3) → (given : s84 .gives (m58 (before .before) (before .terms3 .given))) → Typed.Mo T133
       m94 = λ before given. s129 (m93 before given)
 
-      abbrev pub m95 : (before : After-t3) → (given : s84 .gives (m58 (before .before) (before .t3 .given))) → Typed.Mo T134
+      abbrev pub m95 : (before : After-terms3) → (given : s84 .gives (m58 (before .before) (before .terms3 .given))) → Typed.Mo T134
       m95 = λ before given. s130 (m94 before given)
 
       abbrev pub Need-same-length-4 : Type 0
@@ -6423,7 +6422,7 @@ module _ (claims· : Claims) where
       m98 = λ before given. s130 (m97 before given)
 
       abbrev pub Need-same-length-7 : Type 0
-      Need-same-length-7 = (c : After-w3) → MutSlice.SameLen (Row.get 1 (T134 .locals) (m98 (c .before) (c .w3 .given))) (dens (c
+      Need-same-length-7 = (c : After-work3) → MutSlice.SameLen (Row.get 1 (T134 .locals) (m98 (c .before) (c .work3 .given))) (dens (c
           .before .before .before .before .before .before .before .before .before .before .before .before .before .before .before
           .before .before .before .before .before .before .before .before .before .before .before .before .before .before .before .κs)
           (c .before .before .before .before .before .before .before .before .before .before .before .before .before .before .before
@@ -6431,7 +6430,7 @@ module _ (claims· : Claims) where
           .0)
 
       abbrev pub Need-same-length-8 : Type 0
-      Need-same-length-8 = (c : After-w3) → MutSlice.SameLen (Row.get 2 (T134 .locals) (m98 (c .before) (c .w3 .given))) (dens (c
+      Need-same-length-8 = (c : After-work3) → MutSlice.SameLen (Row.get 2 (T134 .locals) (m98 (c .before) (c .work3 .given))) (dens (c
           .before .before .before .before .before .before .before .before .before .before .before .before .before .before .before
           .before .before .before .before .before .before .before .before .before .before .before .before .before .before .before .κs)
           (c .before .before .before .before .before .before .before .before .before .before .before .before .before .before .before
@@ -6439,7 +6438,7 @@ module _ (claims· : Claims) where
           .1 .0)
 
       abbrev pub Need-same-length-9 : Type 0
-      Need-same-length-9 = (c : After-w3) → MutSlice.SameLen (Row.get 3 (T134 .locals) (m98 (c .before) (c .w3 .given))) (dens (c
+      Need-same-length-9 = (c : After-work3) → MutSlice.SameLen (Row.get 3 (T134 .locals) (m98 (c .before) (c .work3 .given))) (dens (c
           .before .before .before .before .before .before .before .before .before .before .before .before .before .before .before
           .before .before .before .before .before .before .before .before .before .before .before .before .before .before .before .κs)
           (c .before .before .before .before .before .before .before .before .before .before .before .before .before .before .before
@@ -6447,15 +6446,15 @@ module _ (claims· : Claims) where
           .1 .1 .0)
 
       abbrev pub Need-returns-3 : Type 0
-      Need-returns-3 = (c : After-w3) → Post· (c .before .before .before .before .before .before .before .before .before .before .before
+      Need-returns-3 = (c : After-work3) → Post· (c .before .before .before .before .before .before .before .before .before .before
           .before .before .before .before .before .before .before .before .before .before .before .before .before .before .before
-          .before .before .before .before .κs) (dens (c .before .before .before .before .before .before .before .before .before .before
+          .before .before .before .before .before .κs) (dens (c .before .before .before .before .before .before .before .before .before
           .before .before .before .before .before .before .before .before .before .before .before .before .before .before .before
-          .before .before .before .before .before .κs) (c .before .before .before .before .before .before .before .before .before
+          .before .before .before .before .before .before .κs) (c .before .before .before .before .before .before .before .before
           .before .before .before .before .before .before .before .before .before .before .before .before .before .before .before
-          .before .before .before .before .before .before .args)) (Function.resV r (c .before .before .before .before .before .before
+          .before .before .before .before .before .before .before .args)) (Function.resV r (c .before .before .before .before .before
           .before .before .before .before .before .before .before .before .before .before .before .before .before .before .before
-          .before .before .before .before .before .before .before .before .before .κs) (m98 (c .before) (c .w3 .given) .0))
+          .before .before .before .before .before .before .before .before .before .before .κs) (m98 (c .before) (c .work3 .given) .0))
           (Clauses.atExit (Kinds.endedOf 4 ps r) (c .before .before .before .before .before .before .before .before .before .before
           .before .before .before .before .before .before .before .before .before .before .before .before .before .before .before
           .before .before .before .before .before .κs) (dens (c .before .before .before .before .before .before .before .before .before
@@ -6469,7 +6468,7 @@ module _ (claims· : Claims) where
           .before .before .before .before .before .before .before .before .before .before .before .before .κs) (c .before .before
           .before .before .before .before .before .before .before .before .before .before .before .before .before .before .before
           .before .before .before .before .before .before .before .before .before .before .before .before .before .args)) (m98 (c
-          .before) (c .w3 .given) .1)))
+          .before) (c .work3 .given) .1)))
 
       abbrev pub m99 : (before : After-n) → (given : s118 .gives (m82 (before .before) (before .n .given))) → Typed.Mo T132
       m99 = λ before given. s128 (m92 before given)
@@ -6561,42 +6560,44 @@ module _ (claims· : Claims) where
               { before = c .before; known-told3 = c .known-told3 },
         )
 
-        lay10 : (c : After-w3) → at82 (W0 (c .before .before .before .before .before .before .before .before .before .before .before
+        lay10 : (c : After-work3) → at82 (W0 (c .before .before .before .before .before .before .before .before .before .before .before
             .before .before .before .before .before .before .before .before .before .before .before .before .before .before .before
             .before .before .before .before .κs) (c .before .before .before .before .before .before .before .before .before .before
             .before .before .before .before .before .before .before .before .before .before .before .before .before .before .before
-            .before .before .before .before .before .args)) (m81 (c .before) (c .w3 .given))
+            .before .before .before .before .before .args)) (m81 (c .before) (c .work3 .given))
         lay10 = λ c. (
           (
-            MutSlice.fix-len (Row.get 1 (T134 .locals) (m98 (c .before) (c .w3 .given)) .ptr) (Row.get 1 (T134 .locals) (m98
-                (c .before) (c .w3 .given)) .name) (Row.get 1 (T134 .locals) (m98 (c .before) (c .w3 .given)) .now) (dens (c .before .before
+            MutSlice.fix-len (Row.get 1 (T134 .locals) (m98 (c .before) (c .work3 .given)) .ptr) (Row.get 1 (T134 .locals)
+                (m98 (c .before) (c .work3 .given)) .name) (Row.get 1 (T134 .locals) (m98 (c .before) (c .work3 .given)) .now) (dens (c
                 .before .before .before .before .before .before .before .before .before .before .before .before .before .before .before
-                .before .before .before .before .before .before .before .before .before .before .before .before .before .κs) (c .before
+                .before .before .before .before .before .before .before .before .before .before .before .before .before .before .before .κs)
+                (c .before .before .before .before .before .before .before .before .before .before .before .before .before .before .before
                 .before .before .before .before .before .before .before .before .before .before .before .before .before .before .before
-                .before .before .before .before .before .before .before .before .before .before .before .before .before .before .args) .0
-                .now) (same-length-7 record { before = c .before; w3 = c .w3 }),
+                .args) .0 .now) (same-length-7 record { before = c .before; work3 = c .work3 }),
             (
-              MutSlice.fix-len (Row.get 2 (T134 .locals) (m98 (c
-                  .before) (c .w3 .given)) .ptr) (Row.get 2 (T134 .locals) (m98 (c .before) (c .w3 .given)) .name) (Row.get 2 (T134 .locals)
-                  (m98 (c .before) (c .w3 .given)) .now) (dens (c .before .before .before .before .before .before .before .before .before
+              MutSlice.fix-len (Row.get 2 (T134 .locals)
+                  (m98 (c .before) (c .work3 .given)) .ptr) (Row.get 2 (T134 .locals) (m98 (c .before) (c .work3 .given)) .name) (Row.get 2
+                  (T134 .locals) (m98 (c .before) (c .work3 .given)) .now) (dens (c .before .before .before .before .before .before .before
                   .before .before .before .before .before .before .before .before .before .before .before .before .before .before .before
-                  .before .before .before .before .before .before .κs) (c .before .before .before .before .before .before .before .before
+                  .before .before .before .before .before .before .before .before .κs) (c .before .before .before .before .before .before
                   .before .before .before .before .before .before .before .before .before .before .before .before .before .before .before
-                  .before .before .before .before .before .before .before .args) .1 .0 .now) (same-length-8 record
-                  { before = c .before; w3 = c .w3 }),
+                  .before .before .before .before .before .before .before .before .before .args) .1 .0 .now) (same-length-8 record
+                  { before = c .before; work3 = c .work3 }),
               (
-                MutSlice.fix-len (Row.get 3 (T134 .locals) (m98 (c .before) (c .w3 .given)) .ptr)
-                    (Row.get 3 (T134 .locals) (m98 (c .before) (c .w3 .given)) .name) (Row.get 3 (T134 .locals) (m98 (c .before) (c .w3 .given))
-                    .now) (dens (c .before .before .before .before .before .before .before .before .before .before .before .before .before
+                MutSlice.fix-len (Row.get 3 (T134 .locals) (m98 (c .before) (c .work3 .given))
+                    .ptr) (Row.get 3 (T134 .locals) (m98 (c .before) (c .work3 .given)) .name) (Row.get 3 (T134 .locals) (m98 (c .before) (c
+                    .work3 .given)) .now) (dens (c .before .before .before .before .before .before .before .before .before .before .before
                     .before .before .before .before .before .before .before .before .before .before .before .before .before .before .before
-                    .before .before .κs) (c .before .before .before .before .before .before .before .before .before .before .before .before
+                    .before .before .before .before .κs) (c .before .before .before .before .before .before .before .before .before .before
                     .before .before .before .before .before .before .before .before .before .before .before .before .before .before .before
-                    .before .before .before .args) .1 .1 .0 .now) (same-length-9 record { before = c .before; w3 = c .w3 }),
+                    .before .before .before .before .before .args) .1 .1 .0 .now) (same-length-9 record
+                    { before = c .before; work3 = c .work3 }),
                 (Path'.refl, (tt, (tt, (tt, tt)))),
               ),
             ),
           ),
-          returns-3 record { before = c .before; w3 = c .w3 },
+          returns-3 record
+              { before = c .before; work3 = c .work3 },
         )
 
         lay9 : (c : After-slice-known7) → at82 (W0 (c .before .before .before .before .before .before .before .before .before .before
@@ -6677,16 +6678,16 @@ module _ (claims· : Claims) where
                                     ) (m72 (c
                                     .before) (After-give-back·gave c)) g;
                               };
-                              f3 = record { given = g' };
+                              words3 = record { given = g' };
                             };
                         slice-known8 = record { given = g'' };
                       };
-                      t4 = record
-                          { given = g'3 };
+                      terms4 =
+                          record { given = g'3 };
                     };
                     slice-known9 = record { given = g'4 };
                   };
-                  w3 = record { given = g'5 };
+                  work3 = record { given = g'5 };
                 },
               ),
             ),
@@ -6710,15 +6711,16 @@ module _ (claims· : Claims) where
                         before = record {
                           before = record {
                             before = record
-                                { before = record { before = c .before; premise = c .premise }; f2 = record { given = g } };
+                                { before = record { before = c .before; premise = c .premise }; words2 = record { given = g } };
                             slice-known5 = record
                                 { given = g' };
                           };
-                          t2 = record { given = g'' };
+                          terms2 = record { given = g'' };
                         };
                         slice-known6 = record { given = g'3 };
                       };
-                      w2 = record { given = g'4 };
+                      work2 = record
+                          { given = g'4 };
                     };
                     match = record { keys1 = k };
                   },
@@ -6726,32 +6728,33 @@ module _ (claims· : Claims) where
                     Path'.refl,
                     (
                       close-requires record {
-                        before = record {
-                          before = record {
-                            before = record {
+                        before =
+                            record {
                               before = record {
                                 before = record {
                                   before = record {
                                     before = record {
-                                      before = record
-                                          { before = record { before = c .before; premise = c .premise }; f2 = record { given = g } };
-                                      slice-known5 = record
-                                          { given = g' };
+                                      before = record {
+                                        before = record {
+                                          before
+                                              = record { before = record { before = c .before; premise = c .premise }; words2 = record { given = g } };
+                                          slice-known5 =
+                                              record { given = g' };
+                                        };
+                                        terms2 = record { given = g'' };
+                                      };
+                                      slice-known6 = record { given = g'3 };
                                     };
-                                    t2 = record { given = g'' };
+                                    work2 = record
+                                        { given = g'4 };
                                   };
-                                  slice-known6 = record { given = g'3 };
+                                  match = record { keys1 = k };
                                 };
-                                w2 = record { given = g'4 };
+                                i = record { given = g'5 };
                               };
-                              match = record { keys1 = k };
+                              known-told = record { given = g'6 };
                             };
-                            i = record { given = g'5 };
-                          };
-                          known-told = record { given = g'6 };
-                        };
-                        close-arg = record
-                            { given = g'7 };
+                        close-arg = record { given = g'7 };
                       },
                       λ g'8. (
                         Path'.refl,
@@ -6764,17 +6767,19 @@ module _ (claims· : Claims) where
                                     before = record {
                                       before = record {
                                         before = record {
-                                          before = record {
-                                            before =
-                                                record {
-                                                  before = record { before = record { before = c .before; premise = c .premise }; f2 = record { given = g } };
-                                                  slice-known5 = record { given = g' };
+                                          before =
+                                              record {
+                                                before = record {
+                                                  before = record
+                                                      { before = record { before = c .before; premise = c .premise }; words2 = record { given = g } };
+                                                  slice-known5 = record
+                                                      { given = g' };
                                                 };
-                                            t2 = record { given = g'' };
-                                          };
+                                                terms2 = record { given = g'' };
+                                              };
                                           slice-known6 = record { given = g'3 };
                                         };
-                                        w2 = record
+                                        work2 = record
                                             { given = g'4 };
                                       };
                                       match = record { keys1 = k };
@@ -6804,25 +6809,26 @@ module _ (claims· : Claims) where
                                             before = record {
                                               before = record {
                                                 before = record
-                                                    { before = record { before = c .before; premise = c .premise }; f2 = record { given = g } };
+                                                    { before = record { before = c .before; premise = c .premise }; words2 = record { given = g } };
                                                 slice-known5 = record
                                                     { given = g' };
                                               };
-                                              t2 = record { given = g'' };
+                                              terms2 = record { given = g'' };
                                             };
                                             slice-known6 = record { given = g'3 };
                                           };
-                                          w2 = record { given = g'4 };
+                                          work2 = record
+                                              { given = g'4 };
                                         };
                                         match = record { keys1 = k };
                                       };
                                       i = record { given = g'5 };
                                     };
                                 known-told = record { given = g'6 };
-                              } g'7) g'8;
+                              } g'7)
+                                  g'8;
                             };
-                            t3 = record
-                                { given = g'9 };
+                            terms3 = record { given = g'9 };
                           };
                           slice-known7 = record { given = g'10 };
                         },
@@ -6833,22 +6839,23 @@ module _ (claims· : Claims) where
                 (
                   λ k. (
                     enum-known-s record {
-                      before = record {
-                        before =
-                            record {
+                      before
+                          = record {
+                            before = record {
                               before = record {
                                 before = record {
                                   before = record
-                                      { before = record { before = c .before; premise = c .premise }; f2 = record { given = g } };
+                                      { before = record { before = c .before; premise = c .premise }; words2 = record { given = g } };
                                   slice-known5 = record
                                       { given = g' };
                                 };
-                                t2 = record { given = g'' };
+                                terms2 = record { given = g'' };
                               };
                               slice-known6 = record { given = g'3 };
                             };
-                        w2 = record { given = g'4 };
-                      };
+                            work2 = record
+                                { given = g'4 };
+                          };
                       match = record { keys2 = k };
                     },
                     λ g'11. λ g'12. λ g'13. (
@@ -6863,106 +6870,108 @@ module _ (claims· : Claims) where
                                 before = record {
                                   before = record {
                                     before = record {
-                                      before = record {
-                                        before = record {
-                                          before = record {
-                                            before = record {
-                                              before = record {
-                                                before = record
-                                                    { before = record { before = c .before; premise = c .premise }; f2 = record { given = g } };
-                                                slice-known5 = record
-                                                    { given = g' };
-                                              };
-                                              t2 = record { given = g'' };
-                                            };
-                                            slice-known6 = record { given = g'3 };
-                                          };
-                                          w2 = record { given = g'4 };
-                                        };
-                                        match = record { keys2 = k };
-                                      };
-                                      s = record { given = g'11 };
-                                    };
-                                    known-told2 = record { given = g'12 };
-                                  };
-                                  second-half-arg =
-                                      record { given = g'13 };
-                                };
-                                second-half-arg2 = record { given = g'14 };
-                              };
-                              second-half-arg3 = record { given = g'15 };
-                            },
-                            λ
-                                g'16. lay8 record {
-                                  before = record {
-                                    before = record {
-                                      before = record {
-                                        before = record {
-                                          before = record {
-                                            before =
-                                                record {
-                                                  before = record {
-                                                    before = record {
-                                                      before = record {
-                                                        before = record {
-                                                          before = record
-                                                              { before = record { before = c .before; premise = c .premise }; f2 = record { given = g } };
-                                                          slice-known5 = record
-                                                              { given = g' };
-                                                        };
-                                                        t2 = record { given = g'' };
-                                                      };
-                                                      slice-known6 = record { given = g'3 };
-                                                    };
-                                                    w2 = record { given = g'4 };
-                                                  };
-                                                  match = record { keys2 = k };
-                                                };
-                                            s = record { given = g'11 };
-                                          };
-                                          known-told2 = record { given = g'12 };
-                                        };
-                                        second-half-arg =
-                                            record { given = g'13 };
-                                      };
-                                      second-half-arg2 = record { given = g'14 };
-                                    };
-                                    second-half-arg3 = record { given = g'15 };
-                                  };
-                                  give-back = Called.called ps·5 r·5 (claims· .11) T102
-                                      (record { pos = 6; st = []; d = 0; at = λ x. x }, (record { pos = 11; st = []; d = 0; at = λ x. x }, tt)) (m69 record {
-                                        before = record {
-                                          before = record {
+                                      before =
+                                          record {
                                             before = record {
                                               before = record {
                                                 before = record {
                                                   before = record {
-                                                    before =
-                                                        record {
-                                                          before = record {
-                                                            before = record
-                                                                { before = record { before = c .before; premise = c .premise }; f2 = record { given = g } };
-                                                            slice-known5 = record
-                                                                { given = g' };
-                                                          };
-                                                          t2 = record { given = g'' };
-                                                        };
-                                                    slice-known6 = record { given = g'3 };
+                                                    before = record
+                                                        { before = record { before = c .before; premise = c .premise }; words2 = record { given = g } };
+                                                    slice-known5 = record
+                                                        { given = g' };
                                                   };
-                                                  w2 = record { given = g'4 };
+                                                  terms2 = record { given = g'' };
                                                 };
-                                                match = record { keys2 = k };
+                                                slice-known6 = record { given = g'3 };
                                               };
-                                              s = record { given = g'11 };
+                                              work2 = record
+                                                  { given = g'4 };
                                             };
-                                            known-told2 = record { given = g'12 };
+                                            match = record { keys2 = k };
                                           };
-                                          second-half-arg =
-                                              record { given = g'13 };
+                                      s = record { given = g'11 };
+                                    };
+                                    known-told2 = record { given = g'12 };
+                                  };
+                                  second-half-arg = record { given = g'13 };
+                                };
+                                second-half-arg2 = record { given = g'14 };
+                              };
+                              second-half-arg3 = record
+                                  { given = g'15 };
+                            },
+                            λ g'16. lay8 record {
+                              before = record {
+                                before = record {
+                                  before = record {
+                                    before = record {
+                                      before =
+                                          record {
+                                            before = record {
+                                              before = record {
+                                                before = record {
+                                                  before = record {
+                                                    before = record {
+                                                      before = record
+                                                          { before = record { before = c .before; premise = c .premise }; words2 = record { given = g } };
+                                                      slice-known5 = record
+                                                          { given = g' };
+                                                    };
+                                                    terms2 = record { given = g'' };
+                                                  };
+                                                  slice-known6 = record { given = g'3 };
+                                                };
+                                                work2 = record
+                                                    { given = g'4 };
+                                              };
+                                              match = record { keys2 = k };
+                                            };
+                                            s = record { given = g'11 };
+                                          };
+                                      known-told2 = record { given = g'12 };
+                                    };
+                                    second-half-arg = record { given = g'13 };
+                                  };
+                                  second-half-arg2 = record { given = g'14 };
+                                };
+                                second-half-arg3 = record
+                                    { given = g'15 };
+                              };
+                              give-back = Called.called ps·5 r·5 (claims· .11) T102
+                                  (record { pos = 6; st = []; d = 0; at = λ x. x }, (record { pos = 11; st = []; d = 0; at = λ x. x }, tt)) (m69 record {
+                                    before = record {
+                                      before = record {
+                                        before = record {
+                                          before = record {
+                                            before = record {
+                                              before = record {
+                                                before =
+                                                    record {
+                                                      before = record {
+                                                        before = record
+                                                            { before = record { before = c .before; premise = c .premise }; words2 = record { given = g } };
+                                                        slice-known5 = record
+                                                            { given = g' };
+                                                      };
+                                                      terms2 = record { given = g'' };
+                                                    };
+                                                slice-known6 = record { given = g'3 };
+                                              };
+                                              work2 = record
+                                                  { given = g'4 };
+                                            };
+                                            match = record { keys2 = k };
+                                          };
+                                          s = record { given = g'11 };
                                         };
-                                        second-half-arg2 = record { given = g'14 };
-                                      } g'15) g'16;
-                                },
+                                        known-told2 = record { given = g'12 };
+                                      };
+                                      second-half-arg = record { given = g'13 };
+                                    };
+                                    second-half-arg2 = record { given = g'14 };
+                                  } g'15) g'16;
+                            },
                           ),
                         ),
                       ),
@@ -6976,37 +6985,39 @@ module _ (claims· : Claims) where
                             before = record {
                               before = record {
                                 before = record
-                                    { before = record { before = c .before; premise = c .premise }; f2 = record { given = g } };
+                                    { before = record { before = c .before; premise = c .premise }; words2 = record { given = g } };
                                 slice-known5 = record
                                     { given = g' };
                               };
-                              t2 = record { given = g'' };
+                              terms2 = record { given = g'' };
                             };
                             slice-known6 = record { given = g'3 };
                           };
-                          w2 = record { given = g'4 };
+                          work2 = record
+                              { given = g'4 };
                         };
                         match = record { keys3 = k };
                       },
                       λ g'17. λ g'18. lay11 record {
                         before = record {
                           before = record {
-                            before = record {
-                              before
-                                  = record {
+                            before
+                                = record {
+                                  before = record {
                                     before = record {
                                       before = record {
                                         before = record
-                                            { before = record { before = c .before; premise = c .premise }; f2 = record { given = g } };
+                                            { before = record { before = c .before; premise = c .premise }; words2 = record { given = g } };
                                         slice-known5 = record
                                             { given = g' };
                                       };
-                                      t2 = record { given = g'' };
+                                      terms2 = record { given = g'' };
                                     };
                                     slice-known6 = record { given = g'3 };
                                   };
-                              w2 = record { given = g'4 };
-                            };
+                                  work2 = record
+                                      { given = g'4 };
+                                };
                             match = record { keys3 = k };
                           };
                           n = record { given = g'17 };
@@ -7014,18 +7025,17 @@ module _ (claims· : Claims) where
                         known-told3 = record { given = g'18 };
                       },
                     ),
-                    Match.each-below 3
-                        (λ j. ((Unit {0} × (Run.OneOf (0 ∷ []) j → ⊥)) × (Run.OneOf (1 ∷ []) j → ⊥)) × (Run.OneOf (2 ∷ []) j → ⊥) → ⊥)
-                        (λ n. n .1 Path'.refl, (λ n. n .0 .1 Path'.refl, (λ n. n .0 .0 .1 Path'.refl, tt))) (Declared.tagOf Answer.the-type (Row.get
-                        26 (T70 .locals) (m44 record {
+                    Match.each-below 3 (λ j. ((Unit {0} × (Run.OneOf (0 ∷ []) j → ⊥)) × (Run.OneOf (1 ∷ []) j → ⊥)) × (Run.OneOf (2 ∷ []) j →
+                        ⊥) → ⊥) (λ n. n .1 Path'.refl, (λ n. n .0 .1 Path'.refl, (λ n. n .0 .0 .1 Path'.refl, tt))) (Declared.tagOf Answer.the-type
+                        (Row.get 26 (T70 .locals) (m44 record {
                           before = record {
                             before = record {
                               before = record
-                                  { before = record { before = c .before; premise = c .premise }; f2 = record { given = g } };
+                                  { before = record { before = c .before; premise = c .premise }; words2 = record { given = g } };
                               slice-known5 = record
                                   { given = g' };
                             };
-                            t2 = record { given = g'' };
+                            terms2 = record { given = g'' };
                           };
                           slice-known6 = record { given = g'3 };
                         } g'4))) (Match.tag-small
@@ -7033,11 +7043,11 @@ module _ (claims· : Claims) where
                           before = record {
                             before = record {
                               before = record
-                                  { before = record { before = c .before; premise = c .premise }; f2 = record { given = g } };
+                                  { before = record { before = c .before; premise = c .premise }; words2 = record { given = g } };
                               slice-known5 = record
                                   { given = g' };
                             };
-                            t2 = record { given = g'' };
+                            terms2 = record { given = g'' };
                           };
                           slice-known6 = record { given = g'3 };
                         } g'4))),
@@ -7150,104 +7160,104 @@ module _ (claims· : Claims) where
                         before = record {
                           before = record {
                             before = record
-                                { before = record { before = c .before; positions = c .positions }; f = record { given = g } };
+                                { before = record { before = c .before; positions = c .positions }; words = record { given = g } };
                             slice-known3 = record
                                 { given = g' };
                           };
-                          t = record { given = g'' };
+                          terms = record { given = g'' };
                         };
                         slice-known4 = record { given = g'3 };
-                      } g'4) .ptr) (Row.get 1 (T39 .locals)
-                      (m26 record {
+                      } g'4) .ptr) (Row.get 1 (T39
+                      .locals) (m26 record {
                         before = record {
                           before = record {
                             before = record
-                                { before = record { before = c .before; positions = c .positions }; f = record { given = g } };
+                                { before = record { before = c .before; positions = c .positions }; words = record { given = g } };
                             slice-known3 = record
                                 { given = g' };
                           };
-                          t = record { given = g'' };
+                          terms = record { given = g'' };
                         };
                         slice-known4 = record { given = g'3 };
-                      } g'4) .name) (Row.get 1 (T39 .locals)
-                      (m26 record {
+                      } g'4) .name) (Row.get 1 (T39
+                      .locals) (m26 record {
                         before = record {
                           before = record {
                             before = record
-                                { before = record { before = c .before; positions = c .positions }; f = record { given = g } };
+                                { before = record { before = c .before; positions = c .positions }; words = record { given = g } };
                             slice-known3 = record
                                 { given = g' };
                           };
-                          t = record { given = g'' };
+                          terms = record { given = g'' };
                         };
                         slice-known4 = record { given = g'3 };
-                      } g'4) .now) (dens (c .before .before
-                      .before .before .before .before .before .before .before .before .κs) (c .before .before .before .before .before .before
-                      .before .before .before .before .args) .0 .now) (same-length record {
+                      } g'4) .now) (dens (c .before
+                      .before .before .before .before .before .before .before .before .before .κs) (c .before .before .before .before .before
+                      .before .before .before .before .before .args) .0 .now) (same-length record {
                         before = record {
                           before = record {
-                            before = record {
-                              before = record { before = record { before = c .before; positions = c .positions }; f = record { given = g } };
-                              slice-known3 = record { given = g' };
-                            };
-                            t = record { given = g'' };
+                            before =
+                                record {
+                                  before = record { before = record { before = c .before; positions = c .positions }; words = record { given = g } };
+                                  slice-known3 = record { given = g' };
+                                };
+                            terms = record { given = g'' };
                           };
                           slice-known4 = record { given = g'3 };
                         };
-                        w = record
-                            { given = g'4 };
+                        work =
+                            record { given = g'4 };
                       }),
                   (
                     MutSlice.fix-len (Row.get 2 (T39 .locals) (m26 record {
                       before = record {
                         before = record {
-                          before =
-                              record { before = record { before = c .before; positions = c .positions }; f = record { given = g } };
-                          slice-known3 = record
-                              { given = g' };
+                          before = record { before = record { before = c .before; positions = c .positions }; words = record { given = g } };
+                          slice-known3 = record { given = g' };
                         };
-                        t = record { given = g'' };
+                        terms = record { given = g'' };
                       };
                       slice-known4 = record { given = g'3 };
-                    } g'4) .ptr) (Row.get 2 (T39 .locals)
-                        (m26 record {
+                    } g'4) .ptr)
+                        (Row.get 2 (T39 .locals) (m26 record {
                           before = record {
                             before = record {
                               before = record
-                                  { before = record { before = c .before; positions = c .positions }; f = record { given = g } };
+                                  { before = record { before = c .before; positions = c .positions }; words = record { given = g } };
                               slice-known3 = record
                                   { given = g' };
                             };
-                            t = record { given = g'' };
+                            terms = record { given = g'' };
                           };
                           slice-known4 = record { given = g'3 };
-                        } g'4) .name) (Row.get 2 (T39 .locals)
-                        (m26 record {
+                        } g'4) .name) (Row.get 2 (T39
+                        .locals) (m26 record {
                           before = record {
                             before = record {
                               before = record
-                                  { before = record { before = c .before; positions = c .positions }; f = record { given = g } };
+                                  { before = record { before = c .before; positions = c .positions }; words = record { given = g } };
                               slice-known3 = record
                                   { given = g' };
                             };
-                            t = record { given = g'' };
+                            terms = record { given = g'' };
                           };
                           slice-known4 = record { given = g'3 };
-                        } g'4) .now) (dens (c .before .before
-                        .before .before .before .before .before .before .before .before .κs) (c .before .before .before .before .before .before
-                        .before .before .before .before .args) .1 .0 .now) (same-length-2 record {
+                        } g'4) .now) (dens (c .before
+                        .before .before .before .before .before .before .before .before .before .κs) (c .before .before .before .before .before
+                        .before .before .before .before .before .args) .1 .0 .now) (same-length-2 record {
                           before = record {
                             before = record {
-                              before =
-                                  record {
-                                    before = record { before = record { before = c .before; positions = c .positions }; f = record { given = g } };
-                                    slice-known3 = record { given = g' };
-                                  };
-                              t = record { given = g'' };
+                              before = record {
+                                before = record
+                                    { before = record { before = c .before; positions = c .positions }; words = record { given = g } };
+                                slice-known3 = record
+                                    { given = g' };
+                              };
+                              terms = record { given = g'' };
                             };
                             slice-known4 = record { given = g'3 };
                           };
-                          w = record
+                          work = record
                               { given = g'4 };
                         }),
                     (
@@ -7255,52 +7265,53 @@ module _ (claims· : Claims) where
                         before = record {
                           before = record {
                             before =
-                                record { before = record { before = c .before; positions = c .positions }; f = record { given = g } };
-                            slice-known3 = record
-                                { given = g' };
+                                record { before = record { before = c .before; positions = c .positions }; words = record { given = g } };
+                            slice-known3 =
+                                record { given = g' };
                           };
-                          t = record { given = g'' };
+                          terms = record { given = g'' };
                         };
                         slice-known4 = record { given = g'3 };
-                      } g'4) .ptr) (Row.get 3 (T39 .locals)
-                          (m26 record {
+                      } g'4) .ptr) (Row.get 3
+                          (T39 .locals) (m26 record {
                             before = record {
                               before = record {
                                 before = record
-                                    { before = record { before = c .before; positions = c .positions }; f = record { given = g } };
+                                    { before = record { before = c .before; positions = c .positions }; words = record { given = g } };
                                 slice-known3 = record
                                     { given = g' };
                               };
-                              t = record { given = g'' };
+                              terms = record { given = g'' };
                             };
                             slice-known4 = record { given = g'3 };
-                          } g'4) .name) (Row.get 3 (T39 .locals)
-                          (m26 record {
+                          } g'4) .name) (Row.get 3 (T39
+                          .locals) (m26 record {
                             before = record {
                               before = record {
                                 before = record
-                                    { before = record { before = c .before; positions = c .positions }; f = record { given = g } };
+                                    { before = record { before = c .before; positions = c .positions }; words = record { given = g } };
                                 slice-known3 = record
                                     { given = g' };
                               };
-                              t = record { given = g'' };
+                              terms = record { given = g'' };
                             };
                             slice-known4 = record { given = g'3 };
-                          } g'4) .now) (dens (c .before .before
-                          .before .before .before .before .before .before .before .before .κs) (c .before .before .before .before .before .before
-                          .before .before .before .before .args) .1 .1 .0 .now) (same-length-3 record {
+                          } g'4) .now) (dens (c .before
+                          .before .before .before .before .before .before .before .before .before .κs) (c .before .before .before .before .before
+                          .before .before .before .before .before .args) .1 .1 .0 .now) (same-length-3 record {
                             before = record {
                               before = record {
-                                before =
-                                    record {
-                                      before = record { before = record { before = c .before; positions = c .positions }; f = record { given = g } };
-                                      slice-known3 = record { given = g' };
-                                    };
-                                t = record { given = g'' };
+                                before = record {
+                                  before = record
+                                      { before = record { before = c .before; positions = c .positions }; words = record { given = g } };
+                                  slice-known3 = record
+                                      { given = g' };
+                                };
+                                terms = record { given = g'' };
                               };
                               slice-known4 = record { given = g'3 };
                             };
-                            w = record
+                            work = record
                                 { given = g'4 };
                           }),
                       (Path'.refl, (tt, (tt, (tt, tt)))),
@@ -7312,15 +7323,15 @@ module _ (claims· : Claims) where
                     before = record {
                       before =
                           record {
-                            before = record { before = record { before = c .before; positions = c .positions }; f = record { given = g } };
+                            before = record { before = record { before = c .before; positions = c .positions }; words = record { given = g } };
                             slice-known3 = record { given = g' };
                           };
-                      t = record { given = g'' };
+                      terms = record { given = g'' };
                     };
                     slice-known4 = record { given = g'3 };
                   };
-                  w = record
-                      { given = g'4 };
+                  work =
+                      record { given = g'4 };
                 },
               ),
             ),
@@ -7448,25 +7459,26 @@ module _ (claims· : Claims) where
           asked = λ a good pre bs. laid record {
             κs = κs;
             args = record {
-              f = a .0;
-              t = a .1 .0;
-              w = a .1 .1 .0;
-              k = a .1 .1 .1 .0;
-              m =
-                  a .1 .1 .1 .1 .0;
-              st = a .1 .1 .1 .1 .1 .0;
-              q = a .1 .1 .1 .1 .1 .1 .0;
+              words = a .0;
+              terms = a .1 .0;
+              work = a .1 .1 .0;
+              names = a .1
+                  .1 .1 .0;
+              limits = a .1 .1 .1 .1 .0;
+              state = a .1 .1 .1 .1 .1 .0;
+              sequent = a .1 .1 .1 .1 .1 .1 .0;
             };
             good = good;
-            pre = pre;
+            pre =
+                pre;
           }
 
         module _ {M : Type 1} (𝓤 : URA.URA M) (H : Wp.Heap 𝓤) (A : Atoms.Atoms 𝓤) (W : Kit.Given 𝓤 H A) (𝓣 : Wp.Tables 𝓤 H) (known0 :
             Plain.Known 𝓤 H A W 𝓣 1 ps·0 r·0 (claims· .0) (claims· .1) "formula::kind") (known1 : Plain.Known 𝓤 H A W 𝓣 4 ps·1 r·1
             (claims· .2) (claims· .3) "prove::positions") (known2 : Plain.Known 𝓤 H A W 𝓣 1 ps·2 r·2 (claims· .4) (claims· .5)
             "formula::left") (known3 : Plain.Known 𝓤 H A W 𝓣 4 ps·3 r·3 (claims· .6) (claims· .7) "prove::premise") (known4 :
-            Plain.Known 𝓤 H A W 𝓣 1 ps·4 r·4 (claims· .8) (claims· .9) "rules::close") (known5 : Plain.Known 𝓤 H A W 𝓣 0 ps·5 r·5
-            (claims· .10) (claims· .11) "context::give_back") (known6 : Plain.Known 𝓤 H A W 𝓣 4 ps·6 r·6 (claims· .12) (claims· .13)
+            Plain.Known 𝓤 H A W 𝓣 1 ps·4 r·4 (claims· .8) (claims· .9) "search_left::close") (known5 : Plain.Known 𝓤 H A W 𝓣 0 ps·5 r·5
+            (claims· .10) (claims· .11) "meter::give_back") (known6 : Plain.Known 𝓤 H A W 𝓣 4 ps·6 r·6 (claims· .12) (claims· .13)
             "prove::second_half") where
           pub spec : Statement.Triple 𝓤 (Wp.WpFn 𝓤 H (𝓣 .C) (𝓣 .Λ) (Function.fnOf 4 ps r xs m hs body)) (Function.plainOf 𝓤 H A 4 ps r
               Pre· Post·)

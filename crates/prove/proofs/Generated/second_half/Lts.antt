@@ -1,14 +1,14 @@
 -- Made by tools/records.py from the sources; antt refuses it where it is stale. Assumes nothing.
 use Prim.Native.Nat
-use Rattle.context.proofs.Answer
-use Rattle.context.proofs.Answer.Laws
 use Rattle.context.proofs.Element
-use Rattle.context.proofs.Limits
-use Rattle.context.proofs.Limits.Laws as Laws'
-use Rattle.context.proofs.Sequent
-use Rattle.context.proofs.Sequent.Laws as Laws''
-use Rattle.context.proofs.State
-use Rattle.context.proofs.State.Laws as Laws'3
+use Rattle.meter.proofs.Answer
+use Rattle.meter.proofs.Answer.Laws
+use Rattle.meter.proofs.Limits
+use Rattle.meter.proofs.Limits.Laws as Laws'
+use Rattle.meter.proofs.Sequent
+use Rattle.meter.proofs.Sequent.Laws as Laws''
+use Rattle.meter.proofs.State
+use Rattle.meter.proofs.State.Laws as Laws'3
 use borrow.Author.Called
 use borrow.Enum.Known
 use borrow.Enum.Make
@@ -75,8 +75,8 @@ abbrev y0 : Syntax.Ty
 y0 = Syntax.tyInt Syntax.w64
 
 abbrev y1 : Syntax.Ty
-y1 = Syntax.tyStruct (99 ∷ 111 ∷ 110 ∷ 116 ∷ 101 ∷ 120 ∷ 116 ∷ 58 ∷ 58 ∷ 83 ∷ 116 ∷ 97 ∷ 116 ∷ 101 ∷ []) (Syntax.tcons y0 (Syntax.tcons
-    y0 (Syntax.tcons y0 (Syntax.tcons y0 Syntax.tnil))))
+y1 = Syntax.tyStruct (109 ∷ 101 ∷ 116 ∷ 101 ∷ 114 ∷ 58 ∷ 58 ∷ 83 ∷ 116 ∷ 97 ∷ 116 ∷ 101 ∷ []) (Syntax.tcons y0 (Syntax.tcons y0
+    (Syntax.tcons y0 (Syntax.tcons y0 Syntax.tnil))))
 
 abbrev y2 : Syntax.Ty
 y2 = Syntax.tyInt Syntax.w32
@@ -88,9 +88,9 @@ abbrev y4 : Syntax.Ty
 y4 = Syntax.tyStruct (38 ∷ 91 ∷ 93 ∷ []) (Syntax.tcons y3 (Syntax.tcons y0 Syntax.tnil))
 
 abbrev y5 : Syntax.Ty
-y5 = Syntax.tyEnum (99 ∷ 111 ∷ 110 ∷ 116 ∷ 101 ∷ 120 ∷ 116 ∷ 58 ∷ 58 ∷ 65 ∷ 110 ∷ 115 ∷ 119 ∷ 101 ∷ 114 ∷ []) (Syntax.ttcons
-    (Syntax.tcons y0 (Syntax.tcons y1 Syntax.tnil)) (Syntax.ttcons (Syntax.tcons y1 Syntax.tnil) (Syntax.ttcons (Syntax.tcons y0
-    (Syntax.tcons y1 Syntax.tnil)) Syntax.ttnil)))
+y5 = Syntax.tyEnum (109 ∷ 101 ∷ 116 ∷ 101 ∷ 114 ∷ 58 ∷ 58 ∷ 65 ∷ 110 ∷ 115 ∷ 119 ∷ 101 ∷ 114 ∷ []) (Syntax.ttcons (Syntax.tcons y0
+    (Syntax.tcons y1 Syntax.tnil)) (Syntax.ttcons (Syntax.tcons y1 Syntax.tnil) (Syntax.ttcons (Syntax.tcons y0 (Syntax.tcons y1
+    Syntax.tnil)) Syntax.ttnil)))
 
 abbrev y6 : Syntax.Ty
 y6 = Syntax.tyRef Syntax.erased Syntax.mut y2
@@ -225,8 +225,8 @@ abbrev y49 : Row.Entry
 y49 = (0, Rows.whole (Declared.row Answer.the-type))
 
 abbrev y50 : Syntax.Ty
-y50 = Syntax.tyStruct (99 ∷ 111 ∷ 110 ∷ 116 ∷ 101 ∷ 120 ∷ 116 ∷ 58 ∷ 58 ∷ 76 ∷ 105 ∷ 109 ∷ 105 ∷ 116 ∷ 115 ∷ []) (Syntax.tcons y0
-    (Syntax.tcons y0 (Syntax.tcons y0 (Syntax.tcons y0 Syntax.tnil))))
+y50 = Syntax.tyStruct (109 ∷ 101 ∷ 116 ∷ 101 ∷ 114 ∷ 58 ∷ 58 ∷ 76 ∷ 105 ∷ 109 ∷ 105 ∷ 116 ∷ 115 ∷ []) (Syntax.tcons y0 (Syntax.tcons y0
+    (Syntax.tcons y0 (Syntax.tcons y0 Syntax.tnil))))
 
 abbrev y51 : Row.Entry
 y51 = (5, Rows.any-gone y50)
@@ -235,7 +235,7 @@ abbrev y52 : Row.Entry
 y52 = (6, Rows.any-gone y1)
 
 abbrev y53 : Syntax.Ty
-y53 = Syntax.tyStruct (99 ∷ 111 ∷ 110 ∷ 116 ∷ 101 ∷ 120 ∷ 116 ∷ 58 ∷ 58 ∷ 83 ∷ 101 ∷ 113 ∷ 117 ∷ 101 ∷ 110 ∷ 116 ∷ []) (Syntax.tcons y0
+y53 = Syntax.tyStruct (109 ∷ 101 ∷ 116 ∷ 101 ∷ 114 ∷ 58 ∷ 58 ∷ 83 ∷ 101 ∷ 113 ∷ 117 ∷ 101 ∷ 110 ∷ 116 ∷ []) (Syntax.tcons y0
     (Syntax.tcons y0 (Syntax.tcons y0 (Syntax.tcons y0 Syntax.tnil))))
 
 abbrev y54 : Row.Entry
@@ -767,9 +767,9 @@ b13 = Syntax.assign (Syntax.place 25 []) (Syntax.aggregate ((Syntax.copy (Syntax
     ((Syntax.field 1) ∷ []))) ∷ []))
 
 abbrev b14 : Syntax.Body
-b14 = Syntax.call "rules::close" ((Syntax.copy (Syntax.place 25 [])) ∷ (Syntax.copy (Syntax.place 5 [])) ∷ (Syntax.copy (Syntax.place 10
-    [])) ∷ (Syntax.int Syntax.w64 8) ∷ (Syntax.copy (Syntax.place 9 [])) ∷ (Syntax.int Syntax.w64 0) ∷ (Syntax.int Syntax.w64 0) ∷
-    (Syntax.int Syntax.w64 0) ∷ (Syntax.int Syntax.w64 0) ∷ []) (Syntax.place 23 [])
+b14 = Syntax.call "search_left::close" ((Syntax.copy (Syntax.place 25 [])) ∷ (Syntax.copy (Syntax.place 5 [])) ∷ (Syntax.copy
+    (Syntax.place 10 [])) ∷ (Syntax.int Syntax.w64 8) ∷ (Syntax.copy (Syntax.place 9 [])) ∷ (Syntax.int Syntax.w64 0) ∷ (Syntax.int
+    Syntax.w64 0) ∷ (Syntax.int Syntax.w64 0) ∷ (Syntax.int Syntax.w64 0) ∷ []) (Syntax.place 23 [])
 
 abbrev b15 : Syntax.Body
 b15 = Syntax.seq b13 b14
@@ -808,8 +808,7 @@ b25 = Syntax.assign (Syntax.place 31 []) (Syntax.aggregate ((Syntax.copy (Syntax
     ((Syntax.field 1) ∷ []))) ∷ []))
 
 abbrev b26 : Syntax.Body
-b26 = Syntax.call "context::give_back" ((Syntax.copy (Syntax.place 6 [])) ∷ (Syntax.copy (Syntax.place 11 [])) ∷ []) (Syntax.place 32
-    [])
+b26 = Syntax.call "meter::give_back" ((Syntax.copy (Syntax.place 6 [])) ∷ (Syntax.copy (Syntax.place 11 [])) ∷ []) (Syntax.place 32 [])
 
 abbrev b27 : Syntax.Body
 b27 = Syntax.call "prove::positions" ((Syntax.copy (Syntax.place 27 [])) ∷ (Syntax.copy (Syntax.place 29 [])) ∷ (Syntax.copy
@@ -1640,8 +1639,8 @@ module _ (claims· : Claims) where
       abbrev pub Closed : Type 2
       Closed = (𝓤 : URA.URA M) (H : Wp.Heap 𝓤) (A : Atoms.Atoms 𝓤) (W : Kit.Given 𝓤 H A) (𝓣 : Wp.Tables 𝓤 H) (known0 : Plain.Known 𝓤 H A
           W 𝓣 1 ps·0 r·0 (claims· .0) (claims· .1) "formula::right") (known1 : Plain.Known 𝓤 H A W 𝓣 4 ps·1 r·1 (claims· .2) (claims·
-          .3) "prove::premise") (known2 : Plain.Known 𝓤 H A W 𝓣 1 ps·2 r·2 (claims· .4) (claims· .5) "rules::close") (known3 :
-          Plain.Known 𝓤 H A W 𝓣 0 ps·3 r·3 (claims· .6) (claims· .7) "context::give_back") (known4 : Plain.Known 𝓤 H A W 𝓣 4 ps·4 r·4
+          .3) "prove::premise") (known2 : Plain.Known 𝓤 H A W 𝓣 1 ps·2 r·2 (claims· .4) (claims· .5) "search_left::close") (known3 :
+          Plain.Known 𝓤 H A W 𝓣 0 ps·3 r·3 (claims· .6) (claims· .7) "meter::give_back") (known4 : Plain.Known 𝓤 H A W 𝓣 4 ps·4 r·4
           (claims· .8) (claims· .9) "prove::positions") → Statement.Triple 𝓤 (Wp.WpFn 𝓤 H (𝓣 .C) (𝓣 .Λ) (Function.fnOf 4 ps r xs m hs
           body)) (Function.plainOf 𝓤 H A 4 ps r Pre· Post·)
 
@@ -1880,9 +1879,9 @@ module _ (claims· : Claims) where
       module _ {M : Type 1} (𝓤 : URA.URA M) (H : Wp.Heap 𝓤) (A : Atoms.Atoms 𝓤) (W : Kit.Given 𝓤 H A) (𝓣 : Wp.Tables 𝓤 H) where
         abbrev Knowns : Type 1
         Knowns = Plain.Known 𝓤 H A W 𝓣 1 ps·0 r·0 (claims· .0) (claims· .1) "formula::right" × Plain.Known 𝓤 H A W 𝓣 4 ps·1 r·1 (claims·
-            .2) (claims· .3) "prove::premise" × Plain.Known 𝓤 H A W 𝓣 1 ps·2 r·2 (claims· .4) (claims· .5) "rules::close" × Plain.Known
-            𝓤 H A W 𝓣 0 ps·3 r·3 (claims· .6) (claims· .7) "context::give_back" × Plain.Known 𝓤 H A W 𝓣 4 ps·4 r·4 (claims· .8) (claims·
-            .9) "prove::positions"
+            .2) (claims· .3) "prove::premise" × Plain.Known 𝓤 H A W 𝓣 1 ps·2 r·2 (claims· .4) (claims· .5) "search_left::close" ×
+            Plain.Known 𝓤 H A W 𝓣 0 ps·3 r·3 (claims· .6) (claims· .7) "meter::give_back" × Plain.Known 𝓤 H A W 𝓣 4 ps·4 r·4 (claims·
+            .8) (claims· .9) "prove::positions"
 
       module _ (κs : Lifetimes.Lfts 4) (qs : Lifetimes.Shares 4) where
         abbrev g4 : List.List Row.Entry
@@ -2453,9 +2452,8 @@ module _ (claims· : Claims) where
               Ψ) (Typed.g-post 𝓤 H A W 𝓣 E G44 G47 G48 b14 (λ Ψ. Typed.both s42 (Typed.pass T45 T46 s43 (Typed.pass T46 T47 s44 Ψ)))
               (Typed.pass T47 T48 s45) (Typed.g-post 𝓤 H A W 𝓣 E G44 G46 G47 b14 (λ Ψ. Typed.both s42 (Typed.pass T45 T46 s43 Ψ))
               (Typed.pass T46 T47 s44) (Typed.g-post 𝓤 H A W 𝓣 E G44 G45 G46 b14 (Typed.both s42) (Typed.pass T45 T46 s43)
-              (Plain.t-call-plain 𝓤 H A W 𝓣 1 ps·2 r·2 (claims· .4) (claims· .5) "rules::close" (known .2) E (λ pos β. β) G44 (
-                record
-                    { pos = 25; ty = Syntax.tyRef Syntax.erased Syntax.mut y8; ref = λ x. x },
+              (Plain.t-call-plain 𝓤 H A W 𝓣 1 ps·2 r·2 (claims· .4) (claims· .5) "search_left::close" (known .2) E (λ pos β. β) G44 (
+                record { pos = 25; ty = Syntax.tyRef Syntax.erased Syntax.mut y8; ref = λ x. x },
                 (
                   record
                       { pos = 5; st = []; d = 0; at = λ x. x },
@@ -2740,7 +2738,7 @@ module _ (claims· : Claims) where
 
           d14 : Typed.Typed 𝓤 H A 𝓣 E G65 b28 Δ1 at14
           d14 = Typed.s-seq 𝓤 H A W 𝓣 E G65 G66 b26 b27 Δ1 (Typed.both s63) at13 (Plain.t-call-plain 𝓤 H A W 𝓣 0 ps·3 r·3 (claims· .6)
-              (claims· .7) "context::give_back" (known .3) E (λ pos β. β) G65
+              (claims· .7) "meter::give_back" (known .3) E (λ pos β. β) G65
               (record { pos = 6; st = []; d = 0; at = λ x. x }, (record { pos = 11; st = []; d = 0; at = λ x. x }, tt)) 32 []
               (Call.sub-id 𝓤 H A W (G65 .slots)) (
                 (
@@ -3553,31 +3551,32 @@ module _ (claims· : Claims) where
 
       module _ (κs : Lifetimes.Lfts 4) where
         pub record Args : Type 0 where
-          pub f : Kinds.Den {n = 4} κs (MutSlice.pMutS (Referent.rtF (Referent.fInt Syntax.w32)) 0 tt)
-          pub t : Kinds.Den {n = 4} κs (MutSlice.pMutS (Referent.rtF (Referent.fInt Syntax.w16)) 1 tt)
-          pub w : Kinds.Den {n = 4} κs (MutSlice.pMutS Element.row 2 tt)
-          pub k : Kinds.Den {n = 4} κs (ShrSlice.pShrS (Referent.rtF (Referent.fInt Syntax.w8)) 3 tt)
-          pub m : Kinds.Den {n = 4} κs (Value.pVal record {
+          pub words : Kinds.Den {n = 4} κs (MutSlice.pMutS (Referent.rtF (Referent.fInt Syntax.w32)) 0 tt)
+          pub terms : Kinds.Den {n = 4} κs (MutSlice.pMutS (Referent.rtF (Referent.fInt Syntax.w16)) 1 tt)
+          pub work : Kinds.Den {n = 4} κs (MutSlice.pMutS Element.row 2 tt)
+          pub names : Kinds.Den {n = 4} κs (ShrSlice.pShrS (Referent.rtF (Referent.fInt Syntax.w8)) 3 tt)
+          pub limits : Kinds.Den {n = 4} κs (Value.pVal record {
             ty = Declared'.row Limits.the-type;
             one = Path'.refl;
-            val = Laws'5.val
-                Limits.the-type Laws'.the-laws;
+            val =
+                Laws'5.val Limits.the-type Laws'.the-laws;
             tells = Laws'5.tells Limits.the-type Laws'.the-laws;
-            still = Laws'5.still Limits.the-type
-                Laws'.the-copy Exit.yes;
+            still = Laws'5.still
+                Limits.the-type Laws'.the-copy Exit.yes;
             row = Rows.whole (Declared'.row Limits.the-type);
             rd = λ x. x;
             mk = λ x. x;
-          } λ M 𝓤 H A W. record {
-            copies = Laws'5.copy Limits.the-type Laws'.the-copy 𝓤 H A W;
-            lawful = Laws'5.lawful Limits.the-type Laws'.the-laws 𝓤 H A
-                W;
-            makes = Laws'5.makes Limits.the-type Laws'.the-plain 𝓤 H A;
-            in-mem = Local.mem-whole 𝓤 H A W (Declared'.row
-                Limits.the-type);
-            of-mem = Local.whole-mem 𝓤 H A W (Declared'.row Limits.the-type);
-          })
-          pub st : Kinds.Den {n = 4} κs (Value.pVal record {
+          } λ M
+              𝓤 H A W. record {
+                copies = Laws'5.copy Limits.the-type Laws'.the-copy 𝓤 H A W;
+                lawful = Laws'5.lawful Limits.the-type
+                    Laws'.the-laws 𝓤 H A W;
+                makes = Laws'5.makes Limits.the-type Laws'.the-plain 𝓤 H A;
+                in-mem = Local.mem-whole 𝓤 H A W
+                    (Declared'.row Limits.the-type);
+                of-mem = Local.whole-mem 𝓤 H A W (Declared'.row Limits.the-type);
+              })
+          pub state : Kinds.Den {n = 4} κs (Value.pVal record {
             ty = Declared'.row State.the-type;
             one = Path'.refl;
             val = Laws'5.val
@@ -3597,11 +3596,11 @@ module _ (claims· : Claims) where
                 State.the-type);
             of-mem = Local.whole-mem 𝓤 H A W (Declared'.row State.the-type);
           })
-          pub q : Kinds.Den {n = 4} κs (Value.pVal record {
+          pub sequent : Kinds.Den {n = 4} κs (Value.pVal record {
             ty = Declared'.row Sequent.the-type;
             one = Path'.refl;
-            val = Laws'5.val
-                Sequent.the-type Laws''.the-laws;
+            val =
+                Laws'5.val Sequent.the-type Laws''.the-laws;
             tells = Laws'5.tells Sequent.the-type Laws''.the-laws;
             still = Laws'5.still
                 Sequent.the-type Laws''.the-copy Exit.yes;
@@ -3620,7 +3619,7 @@ module _ (claims· : Claims) where
               })
 
         abbrev pub dens : (a : Args) → Kinds.Dens κs ps
-        dens = λ a. (a .f, (a .t, (a .w, (a .k, (a .m, (a .st, (a .q, tt)))))))
+        dens = λ a. (a .words, (a .terms, (a .work, (a .names, (a .limits, (a .state, (a .sequent, tt)))))))
 
       abbrev pub m0 : (κs : Lifetimes.Lfts 4) → (args : Args κs) → Typed.Mo T0
       m0 = λ κs args. (tt, Enter.partsP κs 1 ps xs (dens κs args))
@@ -3845,22 +3844,22 @@ module _ (claims· : Claims) where
       m16 = λ before given. s22 .next (m15 (before .before) (After-premise·gave before)) given
 
       module _ (before· : After-premise) where
-        pub record After-f·own : Type 0 where
+        pub record After-words·own : Type 0 where
           pub given : s22 .gives (m15 (before· .before) (After-premise·gave before·))
 
-      pub record After-f : Type 0 where
+      pub record After-words : Type 0 where
         pub before : After-premise
-        pub f : After-f·own before
+        pub words : After-words·own before
 
-      abbrev pub m17 : (before : After-f) → (given : s23 .gives (m16 (before .before) (before .f .given))) → Typed.Mo T26
-      m17 = λ before given. s23 .next (m16 (before .before) (before .f .given)) given
+      abbrev pub m17 : (before : After-words) → (given : s23 .gives (m16 (before .before) (before .words .given))) → Typed.Mo T26
+      m17 = λ before given. s23 .next (m16 (before .before) (before .words .given)) given
 
-      module _ (before· : After-f) where
+      module _ (before· : After-words) where
         pub record After-slice-known3·own : Type 0 where
-          pub given : s23 .gives (m16 (before· .before) (before· .f .given))
+          pub given : s23 .gives (m16 (before· .before) (before· .words .given))
 
       pub record After-slice-known3 : Type 0 where
-        pub before : After-f
+        pub before : After-words
         pub slice-known3 : After-slice-known3·own before
 
       abbrev pub m18 : (before : After-slice-known3) → (given : s26 .gives (m17 (before .before) (before .slice-known3 .given))) →
@@ -3868,22 +3867,22 @@ module _ (claims· : Claims) where
       m18 = λ before given. s26 .next (m17 (before .before) (before .slice-known3 .given)) given
 
       module _ (before· : After-slice-known3) where
-        pub record After-t·own : Type 0 where
+        pub record After-terms·own : Type 0 where
           pub given : s26 .gives (m17 (before· .before) (before· .slice-known3 .given))
 
-      pub record After-t : Type 0 where
+      pub record After-terms : Type 0 where
         pub before : After-slice-known3
-        pub t : After-t·own before
+        pub terms : After-terms·own before
 
-      abbrev pub m19 : (before : After-t) → (given : s27 .gives (m18 (before .before) (before .t .given))) → Typed.Mo T30
-      m19 = λ before given. s27 .next (m18 (before .before) (before .t .given)) given
+      abbrev pub m19 : (before : After-terms) → (given : s27 .gives (m18 (before .before) (before .terms .given))) → Typed.Mo T30
+      m19 = λ before given. s27 .next (m18 (before .before) (before .terms .given)) given
 
-      module _ (before· : After-t) where
+      module _ (before· : After-terms) where
         pub record After-slice-known4·own : Type 0 where
-          pub given : s27 .gives (m18 (before· .before) (before· .t .given))
+          pub given : s27 .gives (m18 (before· .before) (before· .terms .given))
 
       pub record After-slice-known4 : Type 0 where
-        pub before : After-t
+        pub before : After-terms
         pub slice-known4 : After-slice-known4·own before
 
       abbrev pub m20 : (before : After-slice-known4) → (given : s30 .gives (m19 (before .before) (before .slice-known4 .given))) →
@@ -3891,32 +3890,32 @@ module _ (claims· : Claims) where
       m20 = λ before given. s30 .next (m19 (before .before) (before .slice-known4 .given)) given
 
       module _ (before· : After-slice-known4) where
-        pub record After-w·own : Type 0 where
+        pub record After-work·own : Type 0 where
           pub given : s30 .gives (m19 (before· .before) (before· .slice-known4 .given))
 
-      pub record After-w : Type 0 where
+      pub record After-work : Type 0 where
         pub before : After-slice-known4
-        pub w : After-w·own before
+        pub work : After-work·own before
 
-      module _ (before· : After-w) where
+      module _ (before· : After-work) where
         pub record At-match-keys1·own : Type 0 where
-          pub keys1 : Run.OneOf (0 ∷ []) (Declared.tagOf Answer.the-type (Row.get 16 (T33 .locals) (m20 (before· .before) (before· .w
+          pub keys1 : Run.OneOf (0 ∷ []) (Declared.tagOf Answer.the-type (Row.get 16 (T33 .locals) (m20 (before· .before) (before· .work
               .given))))
 
       pub record At-match-keys1 : Type 0 where
-        pub before : After-w
+        pub before : After-work
         pub match : At-match-keys1·own before
 
       abbrev pub Need-enum-known-i : Type 0
-      Need-enum-known-i = (c : At-match-keys1) → s32 .asks (m20 (c .before .before) (c .before .w .given))
+      Need-enum-known-i = (c : At-match-keys1) → s32 .asks (m20 (c .before .before) (c .before .work .given))
 
-      abbrev pub m21 : (before : At-match-keys1) → (given : s32 .gives (m20 (before .before .before) (before .before .w .given))) →
+      abbrev pub m21 : (before : At-match-keys1) → (given : s32 .gives (m20 (before .before .before) (before .before .work .given))) →
           Typed.Mo T35
-      m21 = λ before given. s32 .next (m20 (before .before .before) (before .before .w .given)) given
+      m21 = λ before given. s32 .next (m20 (before .before .before) (before .before .work .given)) given
 
       module _ (before· : At-match-keys1) where
         pub record After-i·own : Type 0 where
-          pub given : s32 .gives (m20 (before· .before .before) (before· .before .w .given))
+          pub given : s32 .gives (m20 (before· .before .before) (before· .before .work .given))
 
       pub record After-i : Type 0 where
         pub before : At-match-keys1
@@ -4020,43 +4019,43 @@ module _ (claims· : Claims) where
       m34 = λ before given. s47 .next (m33 (before .before) (After-close·gave before)) given
 
       module _ (before· : After-close) where
-        pub record After-t2·own : Type 0 where
+        pub record After-terms2·own : Type 0 where
           pub given : s47 .gives (m33 (before· .before) (After-close·gave before·))
 
-      pub record After-t2 : Type 0 where
+      pub record After-terms2 : Type 0 where
         pub before : After-close
-        pub t2 : After-t2·own before
+        pub terms2 : After-terms2·own before
 
-      abbrev pub m35 : (before : After-t2) → (given : s48 .gives (m34 (before .before) (before .t2 .given))) → Typed.Mo T51
-      m35 = λ before given. s48 .next (m34 (before .before) (before .t2 .given)) given
+      abbrev pub m35 : (before : After-terms2) → (given : s48 .gives (m34 (before .before) (before .terms2 .given))) → Typed.Mo T51
+      m35 = λ before given. s48 .next (m34 (before .before) (before .terms2 .given)) given
 
-      module _ (before· : After-t2) where
+      module _ (before· : After-terms2) where
         pub record After-slice-known5·own : Type 0 where
-          pub given : s48 .gives (m34 (before· .before) (before· .t2 .given))
+          pub given : s48 .gives (m34 (before· .before) (before· .terms2 .given))
 
       pub record After-slice-known5 : Type 0 where
-        pub before : After-t2
+        pub before : After-terms2
         pub slice-known5 : After-slice-known5·own before
 
-      module _ (before· : After-w) where
+      module _ (before· : After-work) where
         pub record At-match-keys2·own : Type 0 where
-          pub keys2 : Run.OneOf (1 ∷ []) (Declared.tagOf Answer.the-type (Row.get 16 (T33 .locals) (m20 (before· .before) (before· .w
+          pub keys2 : Run.OneOf (1 ∷ []) (Declared.tagOf Answer.the-type (Row.get 16 (T33 .locals) (m20 (before· .before) (before· .work
               .given))))
 
       pub record At-match-keys2 : Type 0 where
-        pub before : After-w
+        pub before : After-work
         pub match : At-match-keys2·own before
 
       abbrev pub Need-enum-known-s : Type 0
-      Need-enum-known-s = (c : At-match-keys2) → s50 .asks (m20 (c .before .before) (c .before .w .given))
+      Need-enum-known-s = (c : At-match-keys2) → s50 .asks (m20 (c .before .before) (c .before .work .given))
 
-      abbrev pub m36 : (before : At-match-keys2) → (given : s50 .gives (m20 (before .before .before) (before .before .w .given))) →
+      abbrev pub m36 : (before : At-match-keys2) → (given : s50 .gives (m20 (before .before .before) (before .before .work .given))) →
           Typed.Mo T53
-      m36 = λ before given. s50 .next (m20 (before .before .before) (before .before .w .given)) given
+      m36 = λ before given. s50 .next (m20 (before .before .before) (before .before .work .given)) given
 
       module _ (before· : At-match-keys2) where
         pub record After-s·own : Type 0 where
-          pub given : s50 .gives (m20 (before· .before .before) (before· .before .w .given))
+          pub given : s50 .gives (m20 (before· .before .before) (before· .before .work .given))
 
       pub record After-s : Type 0 where
         pub before : At-match-keys2
@@ -4234,22 +4233,22 @@ module _ (claims· : Claims) where
       m53 = λ before given. s71 .next (m52 (before .before) (After-positions·gave before)) given
 
       module _ (before· : After-positions) where
-        pub record After-f2·own : Type 0 where
+        pub record After-words2·own : Type 0 where
           pub given : s71 .gives (m52 (before· .before) (After-positions·gave before·))
 
-      pub record After-f2 : Type 0 where
+      pub record After-words2 : Type 0 where
         pub before : After-positions
-        pub f2 : After-f2·own before
+        pub words2 : After-words2·own before
 
-      abbrev pub m54 : (before : After-f2) → (given : s72 .gives (m53 (before .before) (before .f2 .given))) → Typed.Mo T75
-      m54 = λ before given. s72 .next (m53 (before .before) (before .f2 .given)) given
+      abbrev pub m54 : (before : After-words2) → (given : s72 .gives (m53 (before .before) (before .words2 .given))) → Typed.Mo T75
+      m54 = λ before given. s72 .next (m53 (before .before) (before .words2 .given)) given
 
-      module _ (before· : After-f2) where
+      module _ (before· : After-words2) where
         pub record After-slice-known6·own : Type 0 where
-          pub given : s72 .gives (m53 (before· .before) (before· .f2 .given))
+          pub given : s72 .gives (m53 (before· .before) (before· .words2 .given))
 
       pub record After-slice-known6 : Type 0 where
-        pub before : After-f2
+        pub before : After-words2
         pub slice-known6 : After-slice-known6·own before
 
       abbrev pub m55 : (before : After-slice-known6) → (given : s75 .gives (m54 (before .before) (before .slice-known6 .given))) →
@@ -4257,22 +4256,22 @@ module _ (claims· : Claims) where
       m55 = λ before given. s75 .next (m54 (before .before) (before .slice-known6 .given)) given
 
       module _ (before· : After-slice-known6) where
-        pub record After-t3·own : Type 0 where
+        pub record After-terms3·own : Type 0 where
           pub given : s75 .gives (m54 (before· .before) (before· .slice-known6 .given))
 
-      pub record After-t3 : Type 0 where
+      pub record After-terms3 : Type 0 where
         pub before : After-slice-known6
-        pub t3 : After-t3·own before
+        pub terms3 : After-terms3·own before
 
-      abbrev pub m56 : (before : After-t3) → (given : s76 .gives (m55 (before .before) (before .t3 .given))) → Typed.Mo T79
-      m56 = λ before given. s76 .next (m55 (before .before) (before .t3 .given)) given
+      abbrev pub m56 : (before : After-terms3) → (given : s76 .gives (m55 (before .before) (before .terms3 .given))) → Typed.Mo T79
+      m56 = λ before given. s76 .next (m55 (before .before) (before .terms3 .given)) given
 
-      module _ (before· : After-t3) where
+      module _ (before· : After-terms3) where
         pub record After-slice-known7·own : Type 0 where
-          pub given : s76 .gives (m55 (before· .before) (before· .t3 .given))
+          pub given : s76 .gives (m55 (before· .before) (before· .terms3 .given))
 
       pub record After-slice-known7 : Type 0 where
-        pub before : After-t3
+        pub before : After-terms3
         pub slice-known7 : After-slice-known7·own before
 
       abbrev pub m57 : (before : After-slice-known7) → (given : s79 .gives (m56 (before .before) (before .slice-known7 .given))) →
@@ -4280,32 +4279,32 @@ module _ (claims· : Claims) where
       m57 = λ before given. s79 .next (m56 (before .before) (before .slice-known7 .given)) given
 
       module _ (before· : After-slice-known7) where
-        pub record After-w2·own : Type 0 where
+        pub record After-work2·own : Type 0 where
           pub given : s79 .gives (m56 (before· .before) (before· .slice-known7 .given))
 
-      pub record After-w2 : Type 0 where
+      pub record After-work2 : Type 0 where
         pub before : After-slice-known7
-        pub w2 : After-w2·own before
+        pub work2 : After-work2·own before
 
-      module _ (before· : After-w) where
+      module _ (before· : After-work) where
         pub record At-match-keys3·own : Type 0 where
-          pub keys3 : Run.OneOf (2 ∷ []) (Declared.tagOf Answer.the-type (Row.get 16 (T33 .locals) (m20 (before· .before) (before· .w
+          pub keys3 : Run.OneOf (2 ∷ []) (Declared.tagOf Answer.the-type (Row.get 16 (T33 .locals) (m20 (before· .before) (before· .work
               .given))))
 
       pub record At-match-keys3 : Type 0 where
-        pub before : After-w
+        pub before : After-work
         pub match : At-match-keys3·own before
 
       abbrev pub Need-enum-known-n : Type 0
-      Need-enum-known-n = (c : At-match-keys3) → s81 .asks (m20 (c .before .before) (c .before .w .given))
+      Need-enum-known-n = (c : At-match-keys3) → s81 .asks (m20 (c .before .before) (c .before .work .given))
 
-      abbrev pub m58 : (before : At-match-keys3) → (given : s81 .gives (m20 (before .before .before) (before .before .w .given))) →
+      abbrev pub m58 : (before : At-match-keys3) → (given : s81 .gives (m20 (before .before .before) (before .before .work .given))) →
           Typed.Mo T84
-      m58 = λ before given. s81 .next (m20 (before .before .before) (before .before .w .given)) given
+      m58 = λ before given. s81 .next (m20 (before .before .before) (before .before .work .given)) given
 
       module _ (before· : At-match-keys3) where
         pub record After-n·own : Type 0 where
-          pub given : s81 .gives (m20 (before· .before .before) (before· .before .w .given))
+          pub given : s81 .gives (m20 (before· .before .before) (before· .before .work .given))
 
       pub record After-n : Type 0 where
         pub before : At-match-keys3
@@ -4349,13 +4348,13 @@ module _ (claims· : Claims) where
         pub before : After-n
         pub known-told3 : After-known-told3·own before
 
-      abbrev pub m69 : (before : After-t2) → (given : s48 .gives (m34 (before .before) (before .t2 .given))) → Typed.Mo T95
+      abbrev pub m69 : (before : After-terms2) → (given : s48 .gives (m34 (before .before) (before .terms2 .given))) → Typed.Mo T95
       m69 = λ before given. s92 (m35 before given)
 
-      abbrev pub m70 : (before : After-t2) → (given : s48 .gives (m34 (before .before) (before .t2 .given))) → Typed.Mo T96
+      abbrev pub m70 : (before : After-terms2) → (given : s48 .gives (m34 (before .before) (before .terms2 .given))) → Typed.Mo T96
       m70 = λ before given. s93 (m69 before given)
 
-      abbrev pub m71 : (before : After-t2) → (given : s48 .gives (m34 (before .before) (before .t2 .given))) → Typed.Mo T97
+      abbrev pub m71 : (before : After-terms2) → (given : s48 .gives (m34 (before .before) (before .terms2 .given))) → Typed.Mo T97
       m71 = λ before given. s94 (m70 before given)
 
       abbrev pub Need-same-length : Type 0
@@ -4411,47 +4410,47 @@ module _ (claims· : Claims) where
       m74 = λ before given. s94 (m73 before given)
 
       abbrev pub Need-same-length-4 : Type 0
-      Need-same-length-4 = (c : After-w2) → MutSlice.SameLen (Row.get 1 (T97 .locals) (m74 (c .before) (c .w2 .given))) (dens (c .before
+      Need-same-length-4 = (c : After-work2) → MutSlice.SameLen (Row.get 1 (T97 .locals) (m74 (c .before) (c .work2 .given))) (dens (c
           .before .before .before .before .before .before .before .before .before .before .before .before .before .before .before
-          .before .before .before .before .before .before .before .before .before .before .before .κs) (c .before .before .before
+          .before .before .before .before .before .before .before .before .before .before .before .before .κs) (c .before .before
           .before .before .before .before .before .before .before .before .before .before .before .before .before .before .before
-          .before .before .before .before .before .before .before .before .before .args) .0)
+          .before .before .before .before .before .before .before .before .before .before .args) .0)
 
       abbrev pub Need-same-length-5 : Type 0
-      Need-same-length-5 = (c : After-w2) → MutSlice.SameLen (Row.get 2 (T97 .locals) (m74 (c .before) (c .w2 .given))) (dens (c .before
+      Need-same-length-5 = (c : After-work2) → MutSlice.SameLen (Row.get 2 (T97 .locals) (m74 (c .before) (c .work2 .given))) (dens (c
           .before .before .before .before .before .before .before .before .before .before .before .before .before .before .before
-          .before .before .before .before .before .before .before .before .before .before .before .κs) (c .before .before .before
+          .before .before .before .before .before .before .before .before .before .before .before .before .κs) (c .before .before
           .before .before .before .before .before .before .before .before .before .before .before .before .before .before .before
-          .before .before .before .before .before .before .before .before .before .args) .1 .0)
+          .before .before .before .before .before .before .before .before .before .before .args) .1 .0)
 
       abbrev pub Need-same-length-6 : Type 0
-      Need-same-length-6 = (c : After-w2) → MutSlice.SameLen (Row.get 3 (T97 .locals) (m74 (c .before) (c .w2 .given))) (dens (c .before
+      Need-same-length-6 = (c : After-work2) → MutSlice.SameLen (Row.get 3 (T97 .locals) (m74 (c .before) (c .work2 .given))) (dens (c
           .before .before .before .before .before .before .before .before .before .before .before .before .before .before .before
-          .before .before .before .before .before .before .before .before .before .before .before .κs) (c .before .before .before
+          .before .before .before .before .before .before .before .before .before .before .before .before .κs) (c .before .before
           .before .before .before .before .before .before .before .before .before .before .before .before .before .before .before
-          .before .before .before .before .before .before .before .before .before .args) .1 .1 .0)
+          .before .before .before .before .before .before .before .before .before .before .args) .1 .1 .0)
 
       abbrev pub Need-returns-2 : Type 0
-      Need-returns-2 = (c : After-w2) → Post· (c .before .before .before .before .before .before .before .before .before .before .before
+      Need-returns-2 = (c : After-work2) → Post· (c .before .before .before .before .before .before .before .before .before .before
           .before .before .before .before .before .before .before .before .before .before .before .before .before .before .before
-          .before .κs) (dens (c .before .before .before .before .before .before .before .before .before .before .before .before .before
-          .before .before .before .before .before .before .before .before .before .before .before .before .before .before .κs) (c
-          .before .before .before .before .before .before .before .before .before .before .before .before .before .before .before
+          .before .before .κs) (dens (c .before .before .before .before .before .before .before .before .before .before .before .before
+          .before .before .before .before .before .before .before .before .before .before .before .before .before .before .before .κs)
+          (c .before .before .before .before .before .before .before .before .before .before .before .before .before .before .before
           .before .before .before .before .before .before .before .before .before .before .before .before .args)) (Function.resV r (c
           .before .before .before .before .before .before .before .before .before .before .before .before .before .before .before
-          .before .before .before .before .before .before .before .before .before .before .before .before .κs) (m74 (c .before) (c .w2
-          .given) .0)) (Clauses.atExit (Kinds.endedOf 4 ps r) (c .before .before .before .before .before .before .before .before .before
+          .before .before .before .before .before .before .before .before .before .before .before .before .κs) (m74 (c .before) (c
+          .work2 .given) .0)) (Clauses.atExit (Kinds.endedOf 4 ps r) (c .before .before .before .before .before .before .before .before
           .before .before .before .before .before .before .before .before .before .before .before .before .before .before .before
-          .before .before .before .κs) (dens (c .before .before .before .before .before .before .before .before .before .before .before
+          .before .before .before .before .κs) (dens (c .before .before .before .before .before .before .before .before .before .before
           .before .before .before .before .before .before .before .before .before .before .before .before .before .before .before
-          .before .κs) (c .before .before .before .before .before .before .before .before .before .before .before .before .before
-          .before .before .before .before .before .before .before .before .before .before .before .before .before .before .args))
-          (Enter.lastsP (c .before .before .before .before .before .before .before .before .before .before .before .before .before
-          .before .before .before .before .before .before .before .before .before .before .before .before .before .before .κs) 1 ps xs
-          (dens (c .before .before .before .before .before .before .before .before .before .before .before .before .before .before
+          .before .before .κs) (c .before .before .before .before .before .before .before .before .before .before .before .before
+          .before .before .before .before .before .before .before .before .before .before .before .before .before .before .before
+          .args)) (Enter.lastsP (c .before .before .before .before .before .before .before .before .before .before .before .before
+          .before .before .before .before .before .before .before .before .before .before .before .before .before .before .before .κs) 1
+          ps xs (dens (c .before .before .before .before .before .before .before .before .before .before .before .before .before .before
           .before .before .before .before .before .before .before .before .before .before .before .before .before .κs) (c .before
           .before .before .before .before .before .before .before .before .before .before .before .before .before .before .before
-          .before .before .before .before .before .before .before .before .before .before .before .args)) (m74 (c .before) (c .w2
+          .before .before .before .before .before .before .before .before .before .before .before .args)) (m74 (c .before) (c .work2
           .given) .1)))
 
       abbrev pub m75 : (before : After-n) → (given : s82 .gives (m58 (before .before) (before .n .given))) → Typed.Mo T95
@@ -4537,41 +4536,41 @@ module _ (claims· : Claims) where
           returns-3 record { before = c .before; known-told3 = c .known-told3 },
         )
 
-        lay5 : (c : After-w2) → at52 (W0 (c .before .before .before .before .before .before .before .before .before .before .before
+        lay5 : (c : After-work2) → at52 (W0 (c .before .before .before .before .before .before .before .before .before .before .before
             .before .before .before .before .before .before .before .before .before .before .before .before .before .before .before
             .before .κs) (c .before .before .before .before .before .before .before .before .before .before .before .before .before
             .before .before .before .before .before .before .before .before .before .before .before .before .before .before .args)) (m57
-            (c .before) (c .w2 .given))
+            (c .before) (c .work2 .given))
         lay5 = λ c. (
           (
-            MutSlice.fix-len (Row.get 1 (T97 .locals) (m74 (c .before) (c .w2 .given)) .ptr) (Row.get 1 (T97 .locals) (m74 (c
-                .before) (c .w2 .given)) .name) (Row.get 1 (T97 .locals) (m74 (c .before) (c .w2 .given)) .now) (dens (c .before .before
+            MutSlice.fix-len (Row.get 1 (T97 .locals) (m74 (c .before) (c .work2 .given)) .ptr) (Row.get 1 (T97 .locals) (m74
+                (c .before) (c .work2 .given)) .name) (Row.get 1 (T97 .locals) (m74 (c .before) (c .work2 .given)) .now) (dens (c .before
                 .before .before .before .before .before .before .before .before .before .before .before .before .before .before .before
-                .before .before .before .before .before .before .before .before .before .before .κs) (c .before .before .before .before
+                .before .before .before .before .before .before .before .before .before .before .before .κs) (c .before .before .before
                 .before .before .before .before .before .before .before .before .before .before .before .before .before .before .before
-                .before .before .before .before .before .before .before .before .args) .0 .now) (same-length-4 record
-                { before = c .before; w2 = c .w2 }),
+                .before .before .before .before .before .before .before .before .before .args) .0 .now) (same-length-4 record
+                { before = c .before; work2 = c .work2 }),
             (
-              MutSlice.fix-len (Row.get 2 (T97 .locals) (m74 (c .before) (c .w2 .given)) .ptr)
-                  (Row.get 2 (T97 .locals) (m74 (c .before) (c .w2 .given)) .name) (Row.get 2 (T97 .locals) (m74 (c .before) (c .w2 .given))
-                  .now) (dens (c .before .before .before .before .before .before .before .before .before .before .before .before .before
-                  .before .before .before .before .before .before .before .before .before .before .before .before .before .before .κs) (c
+              MutSlice.fix-len (Row.get 2 (T97 .locals) (m74 (c .before) (c .work2 .given))
+                  .ptr) (Row.get 2 (T97 .locals) (m74 (c .before) (c .work2 .given)) .name) (Row.get 2 (T97 .locals) (m74 (c .before) (c
+                  .work2 .given)) .now) (dens (c .before .before .before .before .before .before .before .before .before .before .before
                   .before .before .before .before .before .before .before .before .before .before .before .before .before .before .before
-                  .before .before .before .before .before .before .before .before .before .before .before .before .args) .1 .0 .now)
-                  (same-length-5 record { before = c .before; w2 = c .w2 }),
+                  .before .κs) (c .before .before .before .before .before .before .before .before .before .before .before .before .before
+                  .before .before .before .before .before .before .before .before .before .before .before .before .before .before .args) .1 .0
+                  .now) (same-length-5 record { before = c .before; work2 = c .work2 }),
               (
-                MutSlice.fix-len (Row.get 3 (T97 .locals) (m74 (c .before) (c
-                    .w2 .given)) .ptr) (Row.get 3 (T97 .locals) (m74 (c .before) (c .w2 .given)) .name) (Row.get 3 (T97 .locals) (m74 (c
-                    .before) (c .w2 .given)) .now) (dens (c .before .before .before .before .before .before .before .before .before .before
+                MutSlice.fix-len (Row.get 3 (T97 .locals) (m74 (c
+                    .before) (c .work2 .given)) .ptr) (Row.get 3 (T97 .locals) (m74 (c .before) (c .work2 .given)) .name) (Row.get 3 (T97
+                    .locals) (m74 (c .before) (c .work2 .given)) .now) (dens (c .before .before .before .before .before .before .before .before
                     .before .before .before .before .before .before .before .before .before .before .before .before .before .before .before
-                    .before .before .κs) (c .before .before .before .before .before .before .before .before .before .before .before .before
+                    .before .before .before .before .κs) (c .before .before .before .before .before .before .before .before .before .before
                     .before .before .before .before .before .before .before .before .before .before .before .before .before .before .before
-                    .args) .1 .1 .0 .now) (same-length-6 record { before = c .before; w2 = c .w2 }),
+                    .before .before .args) .1 .1 .0 .now) (same-length-6 record { before = c .before; work2 = c .work2 }),
                 (Path'.refl, (tt, (tt, (tt, tt)))),
               ),
             ),
           ),
-          returns-2 record { before = c .before; w2 = c .w2 },
+          returns-2 record { before = c .before; work2 = c .work2 },
         )
 
         lay4 : (c : After-slice-known5) → at52 (W0 (c .before .before .before .before .before .before .before .before .before .before
@@ -4652,16 +4651,16 @@ module _ (claims· : Claims) where
                                     ) (m48 (c
                                     .before) (After-give-back·gave c)) g;
                               };
-                              f2 = record { given = g' };
+                              words2 = record { given = g' };
                             };
                         slice-known6 = record { given = g'' };
                       };
-                      t3 = record
-                          { given = g'3 };
+                      terms3 =
+                          record { given = g'3 };
                     };
                     slice-known7 = record { given = g'4 };
                   };
-                  w2 = record { given = g'5 };
+                  work2 = record { given = g'5 };
                 },
               ),
             ),
@@ -4684,50 +4683,50 @@ module _ (claims· : Claims) where
                         before = record {
                           before = record {
                             before = record
-                                { before = record { before = c .before; premise = c .premise }; f = record { given = g } };
+                                { before = record { before = c .before; premise = c .premise }; words = record { given = g } };
                             slice-known3 = record
                                 { given = g' };
                           };
-                          t = record { given = g'' };
+                          terms = record { given = g'' };
                         };
                         slice-known4 = record { given = g'3 };
                       };
-                      w = record { given = g'4 };
+                      work = record
+                          { given = g'4 };
                     };
-                    match
-                        = record { keys1 = k };
+                    match = record { keys1 = k };
                   },
                   λ g'5. λ g'6. λ g'7. (
                     Path'.refl,
                     (
                       close-requires record {
-                        before = record {
-                          before = record {
-                            before = record {
+                        before =
+                            record {
                               before = record {
                                 before = record {
                                   before = record {
                                     before = record {
-                                      before = record
-                                          { before = record { before = c .before; premise = c .premise }; f = record { given = g } };
-                                      slice-known3 = record
-                                          { given = g' };
+                                      before = record {
+                                        before = record {
+                                          before
+                                              = record { before = record { before = c .before; premise = c .premise }; words = record { given = g } };
+                                          slice-known3 =
+                                              record { given = g' };
+                                        };
+                                        terms = record { given = g'' };
+                                      };
+                                      slice-known4 = record { given = g'3 };
                                     };
-                                    t = record { given = g'' };
+                                    work = record
+                                        { given = g'4 };
                                   };
-                                  slice-known4 = record { given = g'3 };
+                                  match = record { keys1 = k };
                                 };
-                                w = record { given = g'4 };
+                                i = record { given = g'5 };
                               };
-                              match
-                                  = record { keys1 = k };
+                              known-told = record { given = g'6 };
                             };
-                            i = record { given = g'5 };
-                          };
-                          known-told = record { given = g'6 };
-                        };
-                        close-arg = record
-                            { given = g'7 };
+                        close-arg = record { given = g'7 };
                       },
                       λ g'8. (
                         Path'.refl,
@@ -4740,17 +4739,19 @@ module _ (claims· : Claims) where
                                     before = record {
                                       before = record {
                                         before = record {
-                                          before = record {
-                                            before =
-                                                record {
-                                                  before = record { before = record { before = c .before; premise = c .premise }; f = record { given = g } };
-                                                  slice-known3 = record { given = g' };
+                                          before =
+                                              record {
+                                                before = record {
+                                                  before = record
+                                                      { before = record { before = c .before; premise = c .premise }; words = record { given = g } };
+                                                  slice-known3 = record
+                                                      { given = g' };
                                                 };
-                                            t = record { given = g'' };
-                                          };
+                                                terms = record { given = g'' };
+                                              };
                                           slice-known4 = record { given = g'3 };
                                         };
-                                        w = record
+                                        work = record
                                             { given = g'4 };
                                       };
                                       match = record { keys1 = k };
@@ -4780,26 +4781,26 @@ module _ (claims· : Claims) where
                                             before = record {
                                               before = record {
                                                 before = record
-                                                    { before = record { before = c .before; premise = c .premise }; f = record { given = g } };
+                                                    { before = record { before = c .before; premise = c .premise }; words = record { given = g } };
                                                 slice-known3 = record
                                                     { given = g' };
                                               };
-                                              t = record { given = g'' };
+                                              terms = record { given = g'' };
                                             };
                                             slice-known4 = record { given = g'3 };
                                           };
-                                          w = record { given = g'4 };
+                                          work = record
+                                              { given = g'4 };
                                         };
-                                        match
-                                            = record { keys1 = k };
+                                        match = record { keys1 = k };
                                       };
                                       i = record { given = g'5 };
                                     };
                                 known-told = record { given = g'6 };
-                              } g'7) g'8;
+                              } g'7)
+                                  g'8;
                             };
-                            t2 = record
-                                { given = g'9 };
+                            terms2 = record { given = g'9 };
                           };
                           slice-known5 = record { given = g'10 };
                         },
@@ -4810,24 +4811,24 @@ module _ (claims· : Claims) where
                 (
                   λ k. (
                     enum-known-s record {
-                      before = record {
-                        before =
-                            record {
+                      before
+                          = record {
+                            before = record {
                               before = record {
                                 before = record {
                                   before = record
-                                      { before = record { before = c .before; premise = c .premise }; f = record { given = g } };
+                                      { before = record { before = c .before; premise = c .premise }; words = record { given = g } };
                                   slice-known3 = record
                                       { given = g' };
                                 };
-                                t = record { given = g'' };
+                                terms = record { given = g'' };
                               };
                               slice-known4 = record { given = g'3 };
                             };
-                        w = record { given = g'4 };
-                      };
-                      match
-                          = record { keys2 = k };
+                            work = record
+                                { given = g'4 };
+                          };
+                      match = record { keys2 = k };
                     },
                     λ g'11. λ g'12. λ g'13. (
                       Path'.refl,
@@ -4836,117 +4837,113 @@ module _ (claims· : Claims) where
                         λ g'15. (
                           Path'.refl,
                           (
-                            give-back-requires
-                                record {
+                            give-back-requires record {
+                              before = record {
+                                before = record {
                                   before = record {
+                                    before = record {
+                                      before =
+                                          record {
+                                            before = record {
+                                              before = record {
+                                                before = record {
+                                                  before = record {
+                                                    before = record
+                                                        { before = record { before = c .before; premise = c .premise }; words = record { given = g } };
+                                                    slice-known3 = record
+                                                        { given = g' };
+                                                  };
+                                                  terms = record { given = g'' };
+                                                };
+                                                slice-known4 = record { given = g'3 };
+                                              };
+                                              work = record
+                                                  { given = g'4 };
+                                            };
+                                            match = record { keys2 = k };
+                                          };
+                                      s = record { given = g'11 };
+                                    };
+                                    known-told2 = record { given = g'12 };
+                                  };
+                                  positions-arg = record { given = g'13 };
+                                };
+                                positions-arg2 = record { given = g'14 };
+                              };
+                              positions-arg3 = record
+                                  { given = g'15 };
+                            },
+                            λ g'16. lay3 record {
+                              before = record {
+                                before = record {
+                                  before = record {
+                                    before = record {
+                                      before =
+                                          record {
+                                            before = record {
+                                              before = record {
+                                                before = record {
+                                                  before = record {
+                                                    before = record {
+                                                      before = record
+                                                          { before = record { before = c .before; premise = c .premise }; words = record { given = g } };
+                                                      slice-known3 = record
+                                                          { given = g' };
+                                                    };
+                                                    terms = record { given = g'' };
+                                                  };
+                                                  slice-known4 = record { given = g'3 };
+                                                };
+                                                work = record
+                                                    { given = g'4 };
+                                              };
+                                              match = record { keys2 = k };
+                                            };
+                                            s = record { given = g'11 };
+                                          };
+                                      known-told2 = record { given = g'12 };
+                                    };
+                                    positions-arg = record { given = g'13 };
+                                  };
+                                  positions-arg2 = record { given = g'14 };
+                                };
+                                positions-arg3 = record
+                                    { given = g'15 };
+                              };
+                              give-back = Called.called ps·3 r·3 (claims· .7) T65
+                                  (record { pos = 6; st = []; d = 0; at = λ x. x }, (record { pos = 11; st = []; d = 0; at = λ x. x }, tt)) (m45 record {
                                     before = record {
                                       before = record {
                                         before = record {
                                           before = record {
                                             before = record {
-                                              before
-                                                  = record {
-                                                    before = record {
+                                              before = record {
+                                                before =
+                                                    record {
                                                       before = record {
                                                         before = record
-                                                            { before = record { before = c .before; premise = c .premise }; f = record { given = g } };
+                                                            { before = record { before = c .before; premise = c .premise }; words = record { given = g } };
                                                         slice-known3 = record
                                                             { given = g' };
                                                       };
-                                                      t = record { given = g'' };
+                                                      terms = record { given = g'' };
                                                     };
-                                                    slice-known4 = record { given = g'3 };
-                                                  };
-                                              w = record { given = g'4 };
+                                                slice-known4 = record { given = g'3 };
+                                              };
+                                              work = record
+                                                  { given = g'4 };
                                             };
-                                            match
-                                                = record { keys2 = k };
+                                            match = record { keys2 = k };
                                           };
                                           s = record { given = g'11 };
                                         };
                                         known-told2 = record { given = g'12 };
                                       };
-                                      positions-arg = record
-                                          { given = g'13 };
+                                      positions-arg = record { given = g'13 };
                                     };
                                     positions-arg2 = record { given = g'14 };
-                                  };
-                                  positions-arg3 = record { given = g'15 };
-                                },
-                            λ g'16. lay3
-                                record {
-                                  before = record {
-                                    before = record {
-                                      before = record {
-                                        before = record {
-                                          before = record {
-                                            before = record {
-                                              before
-                                                  = record {
-                                                    before = record {
-                                                      before = record {
-                                                        before = record {
-                                                          before = record
-                                                              { before = record { before = c .before; premise = c .premise }; f = record { given = g } };
-                                                          slice-known3 = record
-                                                              { given = g' };
-                                                        };
-                                                        t = record { given = g'' };
-                                                      };
-                                                      slice-known4 = record { given = g'3 };
-                                                    };
-                                                    w = record { given = g'4 };
-                                                  };
-                                              match
-                                                  = record { keys2 = k };
-                                            };
-                                            s = record { given = g'11 };
-                                          };
-                                          known-told2 = record { given = g'12 };
-                                        };
-                                        positions-arg = record
-                                            { given = g'13 };
-                                      };
-                                      positions-arg2 = record { given = g'14 };
-                                    };
-                                    positions-arg3 = record { given = g'15 };
-                                  };
-                                  give-back =
-                                      Called.called ps·3 r·3 (claims· .7) T65
-                                      (record { pos = 6; st = []; d = 0; at = λ x. x }, (record { pos = 11; st = []; d = 0; at = λ x. x }, tt)) (m45 record {
-                                        before = record {
-                                          before = record {
-                                            before = record {
-                                              before = record {
-                                                before = record {
-                                                  before = record {
-                                                    before =
-                                                        record {
-                                                          before = record {
-                                                            before = record
-                                                                { before = record { before = c .before; premise = c .premise }; f = record { given = g } };
-                                                            slice-known3 = record
-                                                                { given = g' };
-                                                          };
-                                                          t = record { given = g'' };
-                                                        };
-                                                    slice-known4 = record { given = g'3 };
-                                                  };
-                                                  w = record { given = g'4 };
-                                                };
-                                                match
-                                                    = record { keys2 = k };
-                                              };
-                                              s = record { given = g'11 };
-                                            };
-                                            known-told2 = record { given = g'12 };
-                                          };
-                                          positions-arg = record
-                                              { given = g'13 };
-                                        };
-                                        positions-arg2 = record { given = g'14 };
-                                      } g'15) g'16;
-                                },
+                                  } g'15) g'16;
+                            },
                           ),
                         ),
                       ),
@@ -4954,65 +4951,64 @@ module _ (claims· : Claims) where
                   ),
                   (
                     λ k. (
-                      enum-known-n record {
-                        before =
-                            record {
+                      enum-known-n
+                          record {
+                            before = record {
                               before = record {
                                 before = record {
                                   before = record {
                                     before = record
-                                        { before = record { before = c .before; premise = c .premise }; f = record { given = g } };
+                                        { before = record { before = c .before; premise = c .premise }; words = record { given = g } };
                                     slice-known3 = record
                                         { given = g' };
                                   };
-                                  t = record { given = g'' };
+                                  terms = record { given = g'' };
                                 };
                                 slice-known4 = record { given = g'3 };
                               };
-                              w = record { given = g'4 };
+                              work = record
+                                  { given = g'4 };
                             };
-                        match
-                            = record { keys3 = k };
-                      },
+                            match = record { keys3 = k };
+                          },
                       λ g'17. λ g'18. lay6 record {
                         before = record {
                           before = record {
-                            before = record {
-                              before =
-                                  record {
+                            before
+                                = record {
+                                  before = record {
                                     before = record {
                                       before = record {
                                         before = record
-                                            { before = record { before = c .before; premise = c .premise }; f = record { given = g } };
+                                            { before = record { before = c .before; premise = c .premise }; words = record { given = g } };
                                         slice-known3 = record
                                             { given = g' };
                                       };
-                                      t = record { given = g'' };
+                                      terms = record { given = g'' };
                                     };
                                     slice-known4 = record { given = g'3 };
                                   };
-                              w = record { given = g'4 };
-                            };
-                            match
-                                = record { keys3 = k };
+                                  work = record
+                                      { given = g'4 };
+                                };
+                            match = record { keys3 = k };
                           };
                           n = record { given = g'17 };
                         };
                         known-told3 = record { given = g'18 };
                       },
                     ),
-                    Match.each-below 3 (λ j.
-                        ((Unit {0} × (Run.OneOf (0 ∷ []) j → ⊥)) × (Run.OneOf (1 ∷ []) j → ⊥)) × (Run.OneOf (2 ∷ []) j → ⊥) → ⊥)
-                        (λ n. n .1 Path'.refl, (λ n. n .0 .1 Path'.refl, (λ n. n .0 .0 .1 Path'.refl, tt))) (Declared.tagOf Answer.the-type (Row.get
-                        16 (T33 .locals) (m20 record {
+                    Match.each-below 3 (λ j. ((Unit {0} × (Run.OneOf (0 ∷ []) j → ⊥)) × (Run.OneOf (1 ∷ []) j → ⊥)) × (Run.OneOf (2 ∷ []) j →
+                        ⊥) → ⊥) (λ n. n .1 Path'.refl, (λ n. n .0 .1 Path'.refl, (λ n. n .0 .0 .1 Path'.refl, tt))) (Declared.tagOf Answer.the-type
+                        (Row.get 16 (T33 .locals) (m20 record {
                           before = record {
                             before = record {
                               before = record
-                                  { before = record { before = c .before; premise = c .premise }; f = record { given = g } };
+                                  { before = record { before = c .before; premise = c .premise }; words = record { given = g } };
                               slice-known3 = record
                                   { given = g' };
                             };
-                            t = record { given = g'' };
+                            terms = record { given = g'' };
                           };
                           slice-known4 = record { given = g'3 };
                         } g'4))) (Match.tag-small
@@ -5020,11 +5016,11 @@ module _ (claims· : Claims) where
                           before = record {
                             before = record {
                               before = record
-                                  { before = record { before = c .before; premise = c .premise }; f = record { given = g } };
+                                  { before = record { before = c .before; premise = c .premise }; words = record { given = g } };
                               slice-known3 = record
                                   { given = g' };
                             };
-                            t = record { given = g'' };
+                            terms = record { given = g'' };
                           };
                           slice-known4 = record { given = g'3 };
                         } g'4))),
@@ -5136,23 +5132,24 @@ module _ (claims· : Claims) where
           asked = λ a good pre bs. laid record {
             κs = κs;
             args = record {
-              f = a .0;
-              t = a .1 .0;
-              w = a .1 .1 .0;
-              k = a .1 .1 .1 .0;
-              m =
-                  a .1 .1 .1 .1 .0;
-              st = a .1 .1 .1 .1 .1 .0;
-              q = a .1 .1 .1 .1 .1 .1 .0;
+              words = a .0;
+              terms = a .1 .0;
+              work = a .1 .1 .0;
+              names = a .1
+                  .1 .1 .0;
+              limits = a .1 .1 .1 .1 .0;
+              state = a .1 .1 .1 .1 .1 .0;
+              sequent = a .1 .1 .1 .1 .1 .1 .0;
             };
             good = good;
-            pre = pre;
+            pre =
+                pre;
           }
 
         module _ {M : Type 1} (𝓤 : URA.URA M) (H : Wp.Heap 𝓤) (A : Atoms.Atoms 𝓤) (W : Kit.Given 𝓤 H A) (𝓣 : Wp.Tables 𝓤 H) (known0 :
             Plain.Known 𝓤 H A W 𝓣 1 ps·0 r·0 (claims· .0) (claims· .1) "formula::right") (known1 : Plain.Known 𝓤 H A W 𝓣 4 ps·1 r·1
             (claims· .2) (claims· .3) "prove::premise") (known2 : Plain.Known 𝓤 H A W 𝓣 1 ps·2 r·2 (claims· .4) (claims· .5)
-            "rules::close") (known3 : Plain.Known 𝓤 H A W 𝓣 0 ps·3 r·3 (claims· .6) (claims· .7) "context::give_back") (known4 :
+            "search_left::close") (known3 : Plain.Known 𝓤 H A W 𝓣 0 ps·3 r·3 (claims· .6) (claims· .7) "meter::give_back") (known4 :
             Plain.Known 𝓤 H A W 𝓣 4 ps·4 r·4 (claims· .8) (claims· .9) "prove::positions") where
           pub spec : Statement.Triple 𝓤 (Wp.WpFn 𝓤 H (𝓣 .C) (𝓣 .Λ) (Function.fnOf 4 ps r xs m hs body)) (Function.plainOf 𝓤 H A 4 ps r
               Pre· Post·)

@@ -1,16 +1,16 @@
 -- Made by tools/records.py from the sources; antt refuses it where it is stale. Assumes nothing.
 use Prim.Native.Nat
-use Rattle.context.proofs.Answer
-use Rattle.context.proofs.Answer.Laws
 use Rattle.context.proofs.Element
-use Rattle.context.proofs.Limits
-use Rattle.context.proofs.Limits.Laws as Laws'
-use Rattle.context.proofs.Sequent
-use Rattle.context.proofs.Sequent.Laws as Laws''
-use Rattle.context.proofs.State
-use Rattle.context.proofs.State.Laws as Laws'3
-use Rattle.premises.proofs.Ready
-use Rattle.premises.proofs.Ready.Laws as Laws'4
+use Rattle.meter.proofs.Answer
+use Rattle.meter.proofs.Answer.Laws
+use Rattle.meter.proofs.Limits
+use Rattle.meter.proofs.Limits.Laws as Laws'
+use Rattle.meter.proofs.Sequent
+use Rattle.meter.proofs.Sequent.Laws as Laws''
+use Rattle.meter.proofs.State
+use Rattle.meter.proofs.State.Laws as Laws'3
+use Rattle.search_premises.proofs.Ready
+use Rattle.search_premises.proofs.Ready.Laws as Laws'4
 use borrow.Author.Called
 use borrow.Enum.Known
 use borrow.Enum.Make
@@ -77,16 +77,17 @@ abbrev y0 : Syntax.Ty
 y0 = Syntax.tyInt Syntax.w64
 
 abbrev y1 : Syntax.Ty
-y1 = Syntax.tyStruct (99 ∷ 111 ∷ 110 ∷ 116 ∷ 101 ∷ 120 ∷ 116 ∷ 58 ∷ 58 ∷ 83 ∷ 116 ∷ 97 ∷ 116 ∷ 101 ∷ []) (Syntax.tcons y0 (Syntax.tcons
-    y0 (Syntax.tcons y0 (Syntax.tcons y0 Syntax.tnil))))
+y1 = Syntax.tyStruct (109 ∷ 101 ∷ 116 ∷ 101 ∷ 114 ∷ 58 ∷ 58 ∷ 83 ∷ 116 ∷ 97 ∷ 116 ∷ 101 ∷ []) (Syntax.tcons y0 (Syntax.tcons y0
+    (Syntax.tcons y0 (Syntax.tcons y0 Syntax.tnil))))
 
 abbrev y2 : Syntax.Ty
-y2 = Syntax.tyStruct (99 ∷ 111 ∷ 110 ∷ 116 ∷ 101 ∷ 120 ∷ 116 ∷ 58 ∷ 58 ∷ 83 ∷ 101 ∷ 113 ∷ 117 ∷ 101 ∷ 110 ∷ 116 ∷ []) (Syntax.tcons y0
+y2 = Syntax.tyStruct (109 ∷ 101 ∷ 116 ∷ 101 ∷ 114 ∷ 58 ∷ 58 ∷ 83 ∷ 101 ∷ 113 ∷ 117 ∷ 101 ∷ 110 ∷ 116 ∷ []) (Syntax.tcons y0
     (Syntax.tcons y0 (Syntax.tcons y0 (Syntax.tcons y0 Syntax.tnil))))
 
 abbrev y3 : Syntax.Ty
-y3 = Syntax.tyEnum (112 ∷ 114 ∷ 101 ∷ 109 ∷ 105 ∷ 115 ∷ 101 ∷ 115 ∷ 58 ∷ 58 ∷ 82 ∷ 101 ∷ 97 ∷ 100 ∷ 121 ∷ []) (Syntax.ttcons
-    (Syntax.tcons y1 (Syntax.tcons y2 Syntax.tnil)) (Syntax.ttcons (Syntax.tcons y0 Syntax.tnil) Syntax.ttnil))
+y3 = Syntax.tyEnum (115 ∷ 101 ∷ 97 ∷ 114 ∷ 99 ∷ 104 ∷ 95 ∷ 112 ∷ 114 ∷ 101 ∷ 109 ∷ 105 ∷ 115 ∷ 101 ∷ 115 ∷ 58 ∷ 58 ∷ 82 ∷ 101 ∷ 97 ∷ 100
+    ∷ 121 ∷ []) (Syntax.ttcons (Syntax.tcons y1 (Syntax.tcons y2 Syntax.tnil)) (Syntax.ttcons (Syntax.tcons y0 Syntax.tnil)
+    Syntax.ttnil))
 
 abbrev y4 : Syntax.Ty
 y4 = Syntax.tyInt Syntax.w32
@@ -113,9 +114,9 @@ abbrev y11 : Syntax.Ty
 y11 = Syntax.tyStruct (38 ∷ 91 ∷ 93 ∷ []) (Syntax.tcons y10 (Syntax.tcons y0 Syntax.tnil))
 
 abbrev y12 : Syntax.Ty
-y12 = Syntax.tyEnum (99 ∷ 111 ∷ 110 ∷ 116 ∷ 101 ∷ 120 ∷ 116 ∷ 58 ∷ 58 ∷ 65 ∷ 110 ∷ 115 ∷ 119 ∷ 101 ∷ 114 ∷ []) (Syntax.ttcons
-    (Syntax.tcons y0 (Syntax.tcons y1 Syntax.tnil)) (Syntax.ttcons (Syntax.tcons y1 Syntax.tnil) (Syntax.ttcons (Syntax.tcons y0
-    (Syntax.tcons y1 Syntax.tnil)) Syntax.ttnil)))
+y12 = Syntax.tyEnum (109 ∷ 101 ∷ 116 ∷ 101 ∷ 114 ∷ 58 ∷ 58 ∷ 65 ∷ 110 ∷ 115 ∷ 119 ∷ 101 ∷ 114 ∷ []) (Syntax.ttcons (Syntax.tcons y0
+    (Syntax.tcons y1 Syntax.tnil)) (Syntax.ttcons (Syntax.tcons y1 Syntax.tnil) (Syntax.ttcons (Syntax.tcons y0 (Syntax.tcons y1
+    Syntax.tnil)) Syntax.ttnil)))
 
 abbrev y13 : Syntax.Ty
 y13 = Syntax.tyRef Syntax.erased Syntax.mut y4
@@ -220,8 +221,8 @@ abbrev y46 : Row.Entry
 y46 = (0, Rows.whole (Declared.row Answer.the-type))
 
 abbrev y47 : Syntax.Ty
-y47 = Syntax.tyStruct (99 ∷ 111 ∷ 110 ∷ 116 ∷ 101 ∷ 120 ∷ 116 ∷ 58 ∷ 58 ∷ 76 ∷ 105 ∷ 109 ∷ 105 ∷ 116 ∷ 115 ∷ []) (Syntax.tcons y0
-    (Syntax.tcons y0 (Syntax.tcons y0 (Syntax.tcons y0 Syntax.tnil))))
+y47 = Syntax.tyStruct (109 ∷ 101 ∷ 116 ∷ 101 ∷ 114 ∷ 58 ∷ 58 ∷ 76 ∷ 105 ∷ 109 ∷ 105 ∷ 116 ∷ 115 ∷ []) (Syntax.tcons y0 (Syntax.tcons y0
+    (Syntax.tcons y0 (Syntax.tcons y0 Syntax.tnil))))
 
 abbrev y48 : Row.Entry
 y48 = (5, Rows.any-gone y47)
@@ -585,7 +586,7 @@ b5 = Syntax.assign (Syntax.place 19 []) (Syntax.aggregate ((Syntax.copy (Syntax.
     ((Syntax.field 1) ∷ []))) ∷ []))
 
 abbrev b6 : Syntax.Body
-b6 = Syntax.call "premises::second" ((Syntax.copy (Syntax.place 15 [])) ∷ (Syntax.copy (Syntax.place 17 [])) ∷ (Syntax.copy
+b6 = Syntax.call "search_premises::second" ((Syntax.copy (Syntax.place 15 [])) ∷ (Syntax.copy (Syntax.place 17 [])) ∷ (Syntax.copy
     (Syntax.place 19 [])) ∷ (Syntax.copy (Syntax.place 5 [])) ∷ (Syntax.copy (Syntax.place 6 [])) ∷ (Syntax.copy (Syntax.place 7 [])) ∷
     (Syntax.copy (Syntax.place 8 [])) ∷ (Syntax.copy (Syntax.place 9 [])) ∷ []) (Syntax.place 13 [])
 
@@ -1213,9 +1214,9 @@ module _ (claims· : Claims) where
     module _ (M : Type 1) where
       abbrev pub Closed : Type 2
       Closed = (𝓤 : URA.URA M) (H : Wp.Heap 𝓤) (A : Atoms.Atoms 𝓤) (W : Kit.Given 𝓤 H A) (𝓣 : Wp.Tables 𝓤 H) (known0 : Plain.Known 𝓤 H A
-          W 𝓣 3 ps·0 r·0 (claims· .0) (claims· .1) "premises::second") (known1 : Plain.Known 𝓤 H A W 𝓣 4 ps·1 r·1 (claims· .2) (claims·
-          .3) "prove::left") → Statement.Triple 𝓤 (Wp.WpFn 𝓤 H (𝓣 .C) (𝓣 .Λ) (Function.fnOf 4 ps r xs m hs body)) (Function.plainOf 𝓤 H
-          A 4 ps r Pre· Post·)
+          W 𝓣 3 ps·0 r·0 (claims· .0) (claims· .1) "search_premises::second") (known1 : Plain.Known 𝓤 H A W 𝓣 4 ps·1 r·1 (claims· .2)
+          (claims· .3) "prove::left") → Statement.Triple 𝓤 (Wp.WpFn 𝓤 H (𝓣 .C) (𝓣 .Λ) (Function.fnOf 4 ps r xs m hs body))
+          (Function.plainOf 𝓤 H A 4 ps r Pre· Post·)
 
     module _ where
       abbrev at0 : Typed.TF T32 O1
@@ -1387,7 +1388,7 @@ module _ (claims· : Claims) where
 
       module _ {M : Type 1} (𝓤 : URA.URA M) (H : Wp.Heap 𝓤) (A : Atoms.Atoms 𝓤) (W : Kit.Given 𝓤 H A) (𝓣 : Wp.Tables 𝓤 H) where
         abbrev Knowns : Type 1
-        Knowns = Plain.Known 𝓤 H A W 𝓣 3 ps·0 r·0 (claims· .0) (claims· .1) "premises::second" × Plain.Known 𝓤 H A W 𝓣 4 ps·1 r·1
+        Knowns = Plain.Known 𝓤 H A W 𝓣 3 ps·0 r·0 (claims· .0) (claims· .1) "search_premises::second" × Plain.Known 𝓤 H A W 𝓣 4 ps·1 r·1
             (claims· .2) (claims· .3) "prove::left"
 
       module _ (κs : Lifetimes.Lfts 4) (qs : Lifetimes.Shares 4) where
@@ -2277,7 +2278,7 @@ module _ (claims· : Claims) where
 
           d41 : Typed.Typed 𝓤 H A 𝓣 E G13 b32 Δ0 at41
           d41 = Typed.s-seq 𝓤 H A W 𝓣 E G13 G14 b6 b31 Δ0 (Typed.both s12) at40 (Plain.t-call-plain 𝓤 H A W 𝓣 3 ps·0 r·0 (claims· .0)
-              (claims· .1) "premises::second" (known .0) E (λ pos β. β) G13 (
+              (claims· .1) "search_premises::second" (known .0) E (λ pos β. β) G13 (
                 record
                     { pos = 15; ty = Syntax.tyRef Syntax.erased Syntax.imm y4; ref = λ x. x },
                 (
@@ -2507,31 +2508,32 @@ module _ (claims· : Claims) where
 
       module _ (κs : Lifetimes.Lfts 4) where
         pub record Args : Type 0 where
-          pub f : Kinds.Den {n = 4} κs (MutSlice.pMutS (Referent.rtF (Referent.fInt Syntax.w32)) 0 tt)
-          pub t : Kinds.Den {n = 4} κs (MutSlice.pMutS (Referent.rtF (Referent.fInt Syntax.w16)) 1 tt)
-          pub w : Kinds.Den {n = 4} κs (MutSlice.pMutS Element.row 2 tt)
-          pub k : Kinds.Den {n = 4} κs (ShrSlice.pShrS (Referent.rtF (Referent.fInt Syntax.w8)) 3 tt)
-          pub m : Kinds.Den {n = 4} κs (Value.pVal record {
+          pub words : Kinds.Den {n = 4} κs (MutSlice.pMutS (Referent.rtF (Referent.fInt Syntax.w32)) 0 tt)
+          pub terms : Kinds.Den {n = 4} κs (MutSlice.pMutS (Referent.rtF (Referent.fInt Syntax.w16)) 1 tt)
+          pub work : Kinds.Den {n = 4} κs (MutSlice.pMutS Element.row 2 tt)
+          pub names : Kinds.Den {n = 4} κs (ShrSlice.pShrS (Referent.rtF (Referent.fInt Syntax.w8)) 3 tt)
+          pub limits : Kinds.Den {n = 4} κs (Value.pVal record {
             ty = Declared'.row Limits.the-type;
             one = Path'.refl;
-            val = Laws'6.val
-                Limits.the-type Laws'.the-laws;
+            val =
+                Laws'6.val Limits.the-type Laws'.the-laws;
             tells = Laws'6.tells Limits.the-type Laws'.the-laws;
-            still = Laws'6.still Limits.the-type
-                Laws'.the-copy Exit.yes;
+            still = Laws'6.still
+                Limits.the-type Laws'.the-copy Exit.yes;
             row = Rows.whole (Declared'.row Limits.the-type);
             rd = λ x. x;
             mk = λ x. x;
-          } λ M 𝓤 H A W. record {
-            copies = Laws'6.copy Limits.the-type Laws'.the-copy 𝓤 H A W;
-            lawful = Laws'6.lawful Limits.the-type Laws'.the-laws 𝓤 H A
-                W;
-            makes = Laws'6.makes Limits.the-type Laws'.the-plain 𝓤 H A;
-            in-mem = Local.mem-whole 𝓤 H A W (Declared'.row
-                Limits.the-type);
-            of-mem = Local.whole-mem 𝓤 H A W (Declared'.row Limits.the-type);
-          })
-          pub st : Kinds.Den {n = 4} κs (Value.pVal record {
+          } λ M
+              𝓤 H A W. record {
+                copies = Laws'6.copy Limits.the-type Laws'.the-copy 𝓤 H A W;
+                lawful = Laws'6.lawful Limits.the-type
+                    Laws'.the-laws 𝓤 H A W;
+                makes = Laws'6.makes Limits.the-type Laws'.the-plain 𝓤 H A;
+                in-mem = Local.mem-whole 𝓤 H A W
+                    (Declared'.row Limits.the-type);
+                of-mem = Local.whole-mem 𝓤 H A W (Declared'.row Limits.the-type);
+              })
+          pub state : Kinds.Den {n = 4} κs (Value.pVal record {
             ty = Declared'.row State.the-type;
             one = Path'.refl;
             val = Laws'6.val
@@ -2551,11 +2553,11 @@ module _ (claims· : Claims) where
                 State.the-type);
             of-mem = Local.whole-mem 𝓤 H A W (Declared'.row State.the-type);
           })
-          pub q : Kinds.Den {n = 4} κs (Value.pVal record {
+          pub sequent : Kinds.Den {n = 4} κs (Value.pVal record {
             ty = Declared'.row Sequent.the-type;
             one = Path'.refl;
-            val = Laws'6.val
-                Sequent.the-type Laws''.the-laws;
+            val =
+                Laws'6.val Sequent.the-type Laws''.the-laws;
             tells = Laws'6.tells Sequent.the-type Laws''.the-laws;
             still = Laws'6.still
                 Sequent.the-type Laws''.the-copy Exit.yes;
@@ -2576,7 +2578,7 @@ module _ (claims· : Claims) where
           pub j : Kinds.Den {n = 4} κs (Num.pNum Syntax.w64)
 
         abbrev pub dens : (a : Args) → Kinds.Dens κs ps
-        dens = λ a. (a .f, (a .t, (a .w, (a .k, (a .m, (a .st, (a .q, (a .i, (a .j, tt)))))))))
+        dens = λ a. (a .words, (a .terms, (a .work, (a .names, (a .limits, (a .state, (a .sequent, (a .i, (a .j, tt)))))))))
 
         module _ (args· : Args) where
           pub record Ranges : Type 0 where
@@ -2761,22 +2763,22 @@ module _ (claims· : Claims) where
       m14 = λ before given. s19 .next (m13 (before .before) (After-second·gave before)) given
 
       module _ (before· : After-second) where
-        pub record After-t·own : Type 0 where
+        pub record After-terms·own : Type 0 where
           pub given : s19 .gives (m13 (before· .before) (After-second·gave before·))
 
-      pub record After-t : Type 0 where
+      pub record After-terms : Type 0 where
         pub before : After-second
-        pub t : After-t·own before
+        pub terms : After-terms·own before
 
-      abbrev pub m15 : (before : After-t) → (given : s20 .gives (m14 (before .before) (before .t .given))) → Typed.Mo T23
-      m15 = λ before given. s20 .next (m14 (before .before) (before .t .given)) given
+      abbrev pub m15 : (before : After-terms) → (given : s20 .gives (m14 (before .before) (before .terms .given))) → Typed.Mo T23
+      m15 = λ before given. s20 .next (m14 (before .before) (before .terms .given)) given
 
-      module _ (before· : After-t) where
+      module _ (before· : After-terms) where
         pub record After-slice-known3·own : Type 0 where
-          pub given : s20 .gives (m14 (before· .before) (before· .t .given))
+          pub given : s20 .gives (m14 (before· .before) (before· .terms .given))
 
       pub record After-slice-known3 : Type 0 where
-        pub before : After-t
+        pub before : After-terms
         pub slice-known3 : After-slice-known3·own before
 
       abbrev pub m16 : (before : After-slice-known3) → (given : s23 .gives (m15 (before .before) (before .slice-known3 .given))) →
@@ -2784,32 +2786,32 @@ module _ (claims· : Claims) where
       m16 = λ before given. s23 .next (m15 (before .before) (before .slice-known3 .given)) given
 
       module _ (before· : After-slice-known3) where
-        pub record After-w·own : Type 0 where
+        pub record After-work·own : Type 0 where
           pub given : s23 .gives (m15 (before· .before) (before· .slice-known3 .given))
 
-      pub record After-w : Type 0 where
+      pub record After-work : Type 0 where
         pub before : After-slice-known3
-        pub w : After-w·own before
+        pub work : After-work·own before
 
-      module _ (before· : After-w) where
+      module _ (before· : After-work) where
         pub record At-match-keys1·own : Type 0 where
-          pub keys1 : Run.OneOf (1 ∷ []) (Declared.tagOf Ready.the-type (Row.get 13 (T26 .locals) (m16 (before· .before) (before· .w
+          pub keys1 : Run.OneOf (1 ∷ []) (Declared.tagOf Ready.the-type (Row.get 13 (T26 .locals) (m16 (before· .before) (before· .work
               .given))))
 
       pub record At-match-keys1 : Type 0 where
-        pub before : After-w
+        pub before : After-work
         pub match : At-match-keys1·own before
 
       abbrev pub Need-enum-known-n : Type 0
-      Need-enum-known-n = (c : At-match-keys1) → s25 .asks (m16 (c .before .before) (c .before .w .given))
+      Need-enum-known-n = (c : At-match-keys1) → s25 .asks (m16 (c .before .before) (c .before .work .given))
 
-      abbrev pub m17 : (before : At-match-keys1) → (given : s25 .gives (m16 (before .before .before) (before .before .w .given))) →
+      abbrev pub m17 : (before : At-match-keys1) → (given : s25 .gives (m16 (before .before .before) (before .before .work .given))) →
           Typed.Mo T28
-      m17 = λ before given. s25 .next (m16 (before .before .before) (before .before .w .given)) given
+      m17 = λ before given. s25 .next (m16 (before .before .before) (before .before .work .given)) given
 
       module _ (before· : At-match-keys1) where
         pub record After-n·own : Type 0 where
-          pub given : s25 .gives (m16 (before· .before .before) (before· .before .w .given))
+          pub given : s25 .gives (m16 (before· .before .before) (before· .before .work .given))
 
       pub record After-n : Type 0 where
         pub before : At-match-keys1
@@ -2844,25 +2846,25 @@ module _ (claims· : Claims) where
         pub before : After-n
         pub known-told : After-known-told·own before
 
-      module _ (before· : After-w) where
+      module _ (before· : After-work) where
         pub record At-match-keys2·own : Type 0 where
-          pub keys2 : Run.OneOf (0 ∷ []) (Declared.tagOf Ready.the-type (Row.get 13 (T26 .locals) (m16 (before· .before) (before· .w
+          pub keys2 : Run.OneOf (0 ∷ []) (Declared.tagOf Ready.the-type (Row.get 13 (T26 .locals) (m16 (before· .before) (before· .work
               .given))))
 
       pub record At-match-keys2 : Type 0 where
-        pub before : After-w
+        pub before : After-work
         pub match : At-match-keys2·own before
 
       abbrev pub Need-enum-known-s1 : Type 0
-      Need-enum-known-s1 = (c : At-match-keys2) → s33 .asks (m16 (c .before .before) (c .before .w .given))
+      Need-enum-known-s1 = (c : At-match-keys2) → s33 .asks (m16 (c .before .before) (c .before .work .given))
 
-      abbrev pub m25 : (before : At-match-keys2) → (given : s33 .gives (m16 (before .before .before) (before .before .w .given))) →
+      abbrev pub m25 : (before : At-match-keys2) → (given : s33 .gives (m16 (before .before .before) (before .before .work .given))) →
           Typed.Mo T36
-      m25 = λ before given. s33 .next (m16 (before .before .before) (before .before .w .given)) given
+      m25 = λ before given. s33 .next (m16 (before .before .before) (before .before .work .given)) given
 
       module _ (before· : At-match-keys2) where
         pub record After-s1·own : Type 0 where
-          pub given : s33 .gives (m16 (before· .before .before) (before· .before .w .given))
+          pub given : s33 .gives (m16 (before· .before .before) (before· .before .work .given))
 
       pub record After-s1 : Type 0 where
         pub before : At-match-keys2
@@ -3013,22 +3015,22 @@ module _ (claims· : Claims) where
       m41 = λ before given. s53 .next (m40 (before .before) (After-left·gave before)) given
 
       module _ (before· : After-left) where
-        pub record After-f·own : Type 0 where
+        pub record After-words·own : Type 0 where
           pub given : s53 .gives (m40 (before· .before) (After-left·gave before·))
 
-      pub record After-f : Type 0 where
+      pub record After-words : Type 0 where
         pub before : After-left
-        pub f : After-f·own before
+        pub words : After-words·own before
 
-      abbrev pub m42 : (before : After-f) → (given : s54 .gives (m41 (before .before) (before .f .given))) → Typed.Mo T57
-      m42 = λ before given. s54 .next (m41 (before .before) (before .f .given)) given
+      abbrev pub m42 : (before : After-words) → (given : s54 .gives (m41 (before .before) (before .words .given))) → Typed.Mo T57
+      m42 = λ before given. s54 .next (m41 (before .before) (before .words .given)) given
 
-      module _ (before· : After-f) where
+      module _ (before· : After-words) where
         pub record After-slice-known4·own : Type 0 where
-          pub given : s54 .gives (m41 (before· .before) (before· .f .given))
+          pub given : s54 .gives (m41 (before· .before) (before· .words .given))
 
       pub record After-slice-known4 : Type 0 where
-        pub before : After-f
+        pub before : After-words
         pub slice-known4 : After-slice-known4·own before
 
       abbrev pub m43 : (before : After-slice-known4) → (given : s57 .gives (m42 (before .before) (before .slice-known4 .given))) →
@@ -3036,22 +3038,22 @@ module _ (claims· : Claims) where
       m43 = λ before given. s57 .next (m42 (before .before) (before .slice-known4 .given)) given
 
       module _ (before· : After-slice-known4) where
-        pub record After-t2·own : Type 0 where
+        pub record After-terms2·own : Type 0 where
           pub given : s57 .gives (m42 (before· .before) (before· .slice-known4 .given))
 
-      pub record After-t2 : Type 0 where
+      pub record After-terms2 : Type 0 where
         pub before : After-slice-known4
-        pub t2 : After-t2·own before
+        pub terms2 : After-terms2·own before
 
-      abbrev pub m44 : (before : After-t2) → (given : s58 .gives (m43 (before .before) (before .t2 .given))) → Typed.Mo T61
-      m44 = λ before given. s58 .next (m43 (before .before) (before .t2 .given)) given
+      abbrev pub m44 : (before : After-terms2) → (given : s58 .gives (m43 (before .before) (before .terms2 .given))) → Typed.Mo T61
+      m44 = λ before given. s58 .next (m43 (before .before) (before .terms2 .given)) given
 
-      module _ (before· : After-t2) where
+      module _ (before· : After-terms2) where
         pub record After-slice-known5·own : Type 0 where
-          pub given : s58 .gives (m43 (before· .before) (before· .t2 .given))
+          pub given : s58 .gives (m43 (before· .before) (before· .terms2 .given))
 
       pub record After-slice-known5 : Type 0 where
-        pub before : After-t2
+        pub before : After-terms2
         pub slice-known5 : After-slice-known5·own before
 
       abbrev pub m45 : (before : After-slice-known5) → (given : s61 .gives (m44 (before .before) (before .slice-known5 .given))) →
@@ -3059,12 +3061,12 @@ module _ (claims· : Claims) where
       m45 = λ before given. s61 .next (m44 (before .before) (before .slice-known5 .given)) given
 
       module _ (before· : After-slice-known5) where
-        pub record After-w2·own : Type 0 where
+        pub record After-work2·own : Type 0 where
           pub given : s61 .gives (m44 (before· .before) (before· .slice-known5 .given))
 
-      pub record After-w2 : Type 0 where
+      pub record After-work2 : Type 0 where
         pub before : After-slice-known5
-        pub w2 : After-w2·own before
+        pub work2 : After-work2·own before
 
       abbrev pub m46 : (before : After-n) → (given : s26 .gives (m17 (before .before) (before .n .given))) → Typed.Mo T66
       m46 = λ before given. s63 (m24 before given)
@@ -3123,32 +3125,34 @@ module _ (claims· : Claims) where
       m53 = λ before given. s66 (m52 before given)
 
       abbrev pub Need-same-length-4 : Type 0
-      Need-same-length-4 = (c : After-w2) → MutSlice.SameLen (Row.get 1 (T69 .locals) (m53 (c .before) (c .w2 .given))) (dens (c .before
+      Need-same-length-4 = (c : After-work2) → MutSlice.SameLen (Row.get 1 (T69 .locals) (m53 (c .before) (c .work2 .given))) (dens (c
           .before .before .before .before .before .before .before .before .before .before .before .before .before .before .before
-          .before .before .before .before .before .before .κs) (c .before .before .before .before .before .before .before .before
-          .before .before .before .before .before .before .before .before .before .before .before .before .before .before .args) .0)
-
-      abbrev pub Need-same-length-5 : Type 0
-      Need-same-length-5 = (c : After-w2) → MutSlice.SameLen (Row.get 2 (T69 .locals) (m53 (c .before) (c .w2 .given))) (dens (c .before
-          .before .before .before .before .before .before .before .before .before .before .before .before .before .before .before
-          .before .before .before .before .before .before .κs) (c .before .before .before .before .before .before .before .before
-          .before .before .before .before .before .before .before .before .before .before .before .before .before .before .args) .1 .0)
-
-      abbrev pub Need-same-length-6 : Type 0
-      Need-same-length-6 = (c : After-w2) → MutSlice.SameLen (Row.get 3 (T69 .locals) (m53 (c .before) (c .w2 .given))) (dens (c .before
-          .before .before .before .before .before .before .before .before .before .before .before .before .before .before .before
-          .before .before .before .before .before .before .κs) (c .before .before .before .before .before .before .before .before
-          .before .before .before .before .before .before .before .before .before .before .before .before .before .before .args) .1 .1
+          .before .before .before .before .before .before .before .κs) (c .before .before .before .before .before .before .before
+          .before .before .before .before .before .before .before .before .before .before .before .before .before .before .before .args)
           .0)
 
+      abbrev pub Need-same-length-5 : Type 0
+      Need-same-length-5 = (c : After-work2) → MutSlice.SameLen (Row.get 2 (T69 .locals) (m53 (c .before) (c .work2 .given))) (dens (c
+          .before .before .before .before .before .before .before .before .before .before .before .before .before .before .before
+          .before .before .before .before .before .before .before .κs) (c .before .before .before .before .before .before .before
+          .before .before .before .before .before .before .before .before .before .before .before .before .before .before .before .args)
+          .1 .0)
+
+      abbrev pub Need-same-length-6 : Type 0
+      Need-same-length-6 = (c : After-work2) → MutSlice.SameLen (Row.get 3 (T69 .locals) (m53 (c .before) (c .work2 .given))) (dens (c
+          .before .before .before .before .before .before .before .before .before .before .before .before .before .before .before
+          .before .before .before .before .before .before .before .κs) (c .before .before .before .before .before .before .before
+          .before .before .before .before .before .before .before .before .before .before .before .before .before .before .before .args)
+          .1 .1 .0)
+
       abbrev pub Need-returns-2 : Type 0
-      Need-returns-2 = (c : After-w2) → Post· (c .before .before .before .before .before .before .before .before .before .before .before
-          .before .before .before .before .before .before .before .before .before .before .before .κs) (dens (c .before .before .before
+      Need-returns-2 = (c : After-work2) → Post· (c .before .before .before .before .before .before .before .before .before .before
+          .before .before .before .before .before .before .before .before .before .before .before .before .κs) (dens (c .before .before
           .before .before .before .before .before .before .before .before .before .before .before .before .before .before .before
-          .before .before .before .before .κs) (c .before .before .before .before .before .before .before .before .before .before
-          .before .before .before .before .before .before .before .before .before .before .before .before .args)) (Function.resV r (c
-          .before .before .before .before .before .before .before .before .before .before .before .before .before .before .before
-          .before .before .before .before .before .before .before .κs) (m53 (c .before) (c .w2 .given) .0)) (Clauses.atExit
+          .before .before .before .before .before .κs) (c .before .before .before .before .before .before .before .before .before
+          .before .before .before .before .before .before .before .before .before .before .before .before .before .args)) (Function.resV
+          r (c .before .before .before .before .before .before .before .before .before .before .before .before .before .before .before
+          .before .before .before .before .before .before .before .κs) (m53 (c .before) (c .work2 .given) .0)) (Clauses.atExit
           (Kinds.endedOf 4 ps r) (c .before .before .before .before .before .before .before .before .before .before .before .before
           .before .before .before .before .before .before .before .before .before .before .κs) (dens (c .before .before .before .before
           .before .before .before .before .before .before .before .before .before .before .before .before .before .before .before
@@ -3158,44 +3162,44 @@ module _ (claims· : Claims) where
           .before .before .before .before .before .before .κs) 1 ps xs (dens (c .before .before .before .before .before .before .before
           .before .before .before .before .before .before .before .before .before .before .before .before .before .before .before .κs)
           (c .before .before .before .before .before .before .before .before .before .before .before .before .before .before .before
-          .before .before .before .before .before .before .before .args)) (m53 (c .before) (c .w2 .given) .1)))
+          .before .before .before .before .before .before .before .args)) (m53 (c .before) (c .work2 .given) .1)))
 
       module _ (second-requires : Need-second-requires) (enum-known-n : Need-enum-known-n) (enum-known-s1 : Need-enum-known-s1)
           (left-requires : Need-left-requires) (same-length : Need-same-length) (same-length-2 : Need-same-length-2) (same-length-3 :
           Need-same-length-3) (returns : Need-returns) (same-length-4 : Need-same-length-4) (same-length-5 : Need-same-length-5)
           (same-length-6 : Need-same-length-6) (returns-2 : Need-returns-2) where
-        lay3 : (c : After-w2) → at39 (W0 (c .before .before .before .before .before .before .before .before .before .before .before
+        lay3 : (c : After-work2) → at39 (W0 (c .before .before .before .before .before .before .before .before .before .before .before
             .before .before .before .before .before .before .before .before .before .before .before .κs) (c .before .before .before
             .before .before .before .before .before .before .before .before .before .before .before .before .before .before .before
-            .before .before .before .before .args)) (m45 (c .before) (c .w2 .given))
+            .before .before .before .before .args)) (m45 (c .before) (c .work2 .given))
         lay3 = λ c. (
           (
-            MutSlice.fix-len (Row.get 1 (T69 .locals) (m53 (c .before) (c .w2 .given)) .ptr) (Row.get 1 (T69 .locals) (m53 (c
-                .before) (c .w2 .given)) .name) (Row.get 1 (T69 .locals) (m53 (c .before) (c .w2 .given)) .now) (dens (c .before .before
+            MutSlice.fix-len (Row.get 1 (T69 .locals) (m53 (c .before) (c .work2 .given)) .ptr) (Row.get 1 (T69 .locals) (m53
+                (c .before) (c .work2 .given)) .name) (Row.get 1 (T69 .locals) (m53 (c .before) (c .work2 .given)) .now) (dens (c .before
                 .before .before .before .before .before .before .before .before .before .before .before .before .before .before .before
-                .before .before .before .before .before .κs) (c .before .before .before .before .before .before .before .before .before
-                .before .before .before .before .before .before .before .before .before .before .before .before .before .args) .0 .now)
-                (same-length-4 record { before = c .before; w2 = c .w2 }),
+                .before .before .before .before .before .before .κs) (c .before .before .before .before .before .before .before .before
+                .before .before .before .before .before .before .before .before .before .before .before .before .before .before .args) .0
+                .now) (same-length-4 record { before = c .before; work2 = c .work2 }),
             (
-              MutSlice.fix-len (Row.get 2 (T69 .locals) (m53 (c .before) (c
-                  .w2 .given)) .ptr) (Row.get 2 (T69 .locals) (m53 (c .before) (c .w2 .given)) .name) (Row.get 2 (T69 .locals) (m53 (c
-                  .before) (c .w2 .given)) .now) (dens (c .before .before .before .before .before .before .before .before .before .before
-                  .before .before .before .before .before .before .before .before .before .before .before .before .κs) (c .before .before
+              MutSlice.fix-len (Row.get 2 (T69 .locals) (m53 (c
+                  .before) (c .work2 .given)) .ptr) (Row.get 2 (T69 .locals) (m53 (c .before) (c .work2 .given)) .name) (Row.get 2 (T69
+                  .locals) (m53 (c .before) (c .work2 .given)) .now) (dens (c .before .before .before .before .before .before .before .before
+                  .before .before .before .before .before .before .before .before .before .before .before .before .before .before .κs) (c
                   .before .before .before .before .before .before .before .before .before .before .before .before .before .before .before
-                  .before .before .before .before .before .args) .1 .0 .now) (same-length-5 record { before = c .before; w2 = c .w2 }),
+                  .before .before .before .before .before .before .before .args) .1 .0 .now) (same-length-5 record
+                  { before = c .before; work2 = c .work2 }),
               (
-                MutSlice.fix-len (Row.get 3 (T69 .locals) (m53 (c .before) (c .w2 .given)) .ptr) (Row.get 3 (T69 .locals) (m53 (c .before)
-                    (c .w2 .given)) .name) (Row.get 3 (T69 .locals) (m53 (c .before) (c .w2 .given)) .now) (dens (c .before .before .before
+                MutSlice.fix-len (Row.get 3 (T69 .locals) (m53 (c .before) (c .work2 .given))
+                    .ptr) (Row.get 3 (T69 .locals) (m53 (c .before) (c .work2 .given)) .name) (Row.get 3 (T69 .locals) (m53 (c .before) (c
+                    .work2 .given)) .now) (dens (c .before .before .before .before .before .before .before .before .before .before .before
+                    .before .before .before .before .before .before .before .before .before .before .before .κs) (c .before .before .before
                     .before .before .before .before .before .before .before .before .before .before .before .before .before .before .before
-                    .before .before .before .before .κs) (c .before .before .before .before .before .before .before .before .before .before
-                    .before .before .before .before .before .before .before .before .before .before .before .before .args) .1 .1 .0 .now)
-                    (same-length-6 record { before = c .before; w2 = c .w2 }),
+                    .before .before .before .before .args) .1 .1 .0 .now) (same-length-6 record { before = c .before; work2 = c .work2 }),
                 (Path'.refl, (tt, (tt, (tt, (tt, (tt, tt)))))),
               ),
             ),
           ),
-          returns-2
-              record { before = c .before; w2 = c .w2 },
+          returns-2 record { before = c .before; work2 = c .work2 },
         )
 
         lay2 : (c : After-known-told) → at39 (W0 (c .before .before .before .before .before .before .before .before .before .before
@@ -3242,32 +3246,33 @@ module _ (claims· : Claims) where
                   before = record {
                     before = record {
                       before
-                          = record { before = record { before = c .before; second = c .second }; t = record { given = g } };
+                          = record { before = record { before = c .before; second = c .second }; terms = record { given = g } };
                       slice-known3 = record
                           { given = g' };
                     };
-                    w = record { given = g'' };
+                    work = record { given = g'' };
                   };
                   match = record { keys1 = k };
                 },
                 λ g'3. λ g'4. lay2 record {
-                  before = record {
-                    before = record {
-                      before = record {
+                  before =
+                      record {
                         before = record {
-                          before = record
-                              { before = record { before = c .before; second = c .second }; t = record { given = g } };
-                          slice-known3 = record
-                              { given = g' };
+                          before = record {
+                            before = record {
+                              before = record
+                                  { before = record { before = c .before; second = c .second }; terms = record { given = g } };
+                              slice-known3 = record
+                                  { given = g' };
+                            };
+                            work = record { given = g'' };
+                          };
+                          match = record { keys1 = k };
                         };
-                        w = record { given = g'' };
+                        n = record { given = g'3 };
                       };
-                      match = record { keys1 = k };
-                    };
-                    n = record { given = g'3 };
-                  };
-                  known-told =
-                      record { given = g'4 };
+                  known-told
+                      = record { given = g'4 };
                 },
               ),
               (
@@ -3276,11 +3281,11 @@ module _ (claims· : Claims) where
                     before = record {
                       before = record {
                         before = record
-                            { before = record { before = c .before; second = c .second }; t = record { given = g } };
+                            { before = record { before = c .before; second = c .second }; terms = record { given = g } };
                         slice-known3 = record
                             { given = g' };
                       };
-                      w = record { given = g'' };
+                      work = record { given = g'' };
                     };
                     match = record { keys2 = k };
                   },
@@ -3301,25 +3306,24 @@ module _ (claims· : Claims) where
                                           before = record {
                                             before = record {
                                               before = record
-                                                  { before = record { before = c .before; second = c .second }; t = record { given = g } };
+                                                  { before = record { before = c .before; second = c .second }; terms = record { given = g } };
                                               slice-known3 = record
                                                   { given = g' };
                                             };
-                                            w = record { given = g'' };
+                                            work = record { given = g'' };
                                           };
                                           match = record { keys2 = k };
                                         };
                                         s1 = record { given = g'5 };
                                       };
-                                  known-told2 =
-                                      record { given = g'6 };
+                                  known-told2 = record { given = g'6 };
                                 };
                                 left-arg = record { given = g'7 };
                               };
                               left-arg2 = record { given = g'8 };
                             };
-                            left-arg3 = record
-                                { given = g'9 };
+                            left-arg3
+                                = record { given = g'9 };
                           },
                           λ g'10. (
                             Path'.refl,
@@ -3327,100 +3331,97 @@ module _ (claims· : Claims) where
                               Path'.refl,
                               λ g'13. λ g'14. (
                                 Path'.refl,
-                                λ g'15. lay3 record {
-                                  before = record {
-                                    before = record {
+                                λ g'15. lay3
+                                    record {
                                       before = record {
                                         before = record {
                                           before = record {
                                             before = record {
-                                              before =
-                                                  record {
+                                              before = record {
+                                                before = record {
+                                                  before
+                                                      = record {
+                                                        before = record {
+                                                          before = record {
+                                                            before = record {
+                                                              before = record {
+                                                                before = record {
+                                                                  before = record {
+                                                                    before = record { before = record { before = c .before; second = c .second }; terms = record { given = g } };
+                                                                    slice-known3
+                                                                        = record { given = g' };
+                                                                  };
+                                                                  work = record { given = g'' };
+                                                                };
+                                                                match = record { keys2 = k };
+                                                              };
+                                                              s1 = record { given = g'5 };
+                                                            };
+                                                            known-told2 = record { given = g'6 };
+                                                          };
+                                                          left-arg = record { given = g'7 };
+                                                        };
+                                                        left-arg2 = record { given = g'8 };
+                                                      };
+                                                  left-arg3
+                                                      = record { given = g'9 };
+                                                };
+                                                left = Called.called ps·1 r·1 (claims· .3) T50 (
+                                                  record
+                                                      { pos = 22; ty = Syntax.tyRef Syntax.erased Syntax.mut y4; ref = λ x. x },
+                                                  (
+                                                    record
+                                                        { pos = 24; ty = Syntax.tyRef Syntax.erased Syntax.mut y7; ref = λ x. x },
+                                                    (
+                                                      record
+                                                          { pos = 26; ty = Syntax.tyRef Syntax.erased Syntax.mut Element.named; ref = λ x. x },
+                                                      (
+                                                        record
+                                                            { pos = 4; ty = Syntax.tyRef (Syntax.named 3) Syntax.imm (Syntax.tyInt Syntax.w8); ref = λ x. x },
+                                                        (
+                                                          record
+                                                              { pos = 5; st = []; d = 0; at = λ x. x },
+                                                          (record { pos = 11; st = []; d = 0; at = λ x. x }, (record { pos = 12; st = []; d = 0; at = λ x. x }, tt)),
+                                                        ),
+                                                      ),
+                                                    ),
+                                                  ),
+                                                ) (m36 record {
+                                                  before = record {
                                                     before = record {
                                                       before = record {
                                                         before = record {
                                                           before = record {
                                                             before = record {
-                                                              before = record {
-                                                                before
-                                                                    = record { before = record { before = c .before; second = c .second }; t = record { given = g } };
-                                                                slice-known3 = record
-                                                                    { given = g' };
-                                                              };
-                                                              w = record { given = g'' };
+                                                              before =
+                                                                  record { before = record { before = c .before; second = c .second }; terms = record { given = g } };
+                                                              slice-known3 = record
+                                                                  { given = g' };
                                                             };
-                                                            match = record { keys2 = k };
+                                                            work = record { given = g'' };
                                                           };
-                                                          s1 = record { given = g'5 };
+                                                          match = record { keys2 = k };
                                                         };
-                                                        known-told2 =
-                                                            record { given = g'6 };
+                                                        s1 = record { given = g'5 };
                                                       };
-                                                      left-arg = record { given = g'7 };
+                                                      known-told2 = record { given = g'6 };
                                                     };
-                                                    left-arg2 = record { given = g'8 };
+                                                    left-arg = record { given = g'7 };
                                                   };
-                                              left-arg3 = record
-                                                  { given = g'9 };
-                                            };
-                                            left = Called.called ps·1 r·1 (claims· .3) T50 (
-                                              record
-                                                  { pos = 22; ty = Syntax.tyRef Syntax.erased Syntax.mut y4; ref = λ x. x },
-                                              (
-                                                record
-                                                    { pos = 24; ty = Syntax.tyRef Syntax.erased Syntax.mut y7; ref = λ x. x },
-                                                (
-                                                  record
-                                                      { pos = 26; ty = Syntax.tyRef Syntax.erased Syntax.mut Element.named; ref = λ x. x },
-                                                  (
-                                                    record
-                                                        { pos = 4; ty = Syntax.tyRef (Syntax.named 3) Syntax.imm (Syntax.tyInt Syntax.w8); ref = λ x. x },
-                                                    (
-                                                      record
-                                                          { pos = 5; st = []; d = 0; at = λ x. x },
-                                                      (record { pos = 11; st = []; d = 0; at = λ x. x }, (record { pos = 12; st = []; d = 0; at = λ x. x }, tt)),
-                                                    ),
-                                                  ),
-                                                ),
-                                              ),
-                                            ) (m36 record {
-                                              before = record {
-                                                before = record {
-                                                  before = record {
-                                                    before = record {
-                                                      before = record {
-                                                        before = record {
-                                                          before =
-                                                              record { before = record { before = c .before; second = c .second }; t = record { given = g } };
-                                                          slice-known3 = record
-                                                              { given = g' };
-                                                        };
-                                                        w = record { given = g'' };
-                                                      };
-                                                      match = record { keys2 = k };
-                                                    };
-                                                    s1 = record { given = g'5 };
-                                                  };
-                                                  known-told2 =
-                                                      record { given = g'6 };
-                                                };
-                                                left-arg = record { given = g'7 };
+                                                  left-arg2 = record { given = g'8 };
+                                                } g'9)
+                                                    g'10;
                                               };
-                                              left-arg2 = record { given = g'8 };
-                                            } g'9) g'10;
+                                              words = record { given = g'11 };
+                                            };
+                                            slice-known4 = record { given = g'12 };
                                           };
-                                          f = record
-                                              { given = g'11 };
+                                          terms2 = record { given = g'13 };
                                         };
-                                        slice-known4 = record { given = g'12 };
+                                        slice-known5 = record { given = g'14 };
                                       };
-                                      t2 = record { given = g'13 };
-                                    };
-                                    slice-known5 = record
-                                        { given = g'14 };
-                                  };
-                                  w2 = record { given = g'15 };
-                                },
+                                      work2 = record { given = g'15 };
+                                    },
                               ),
                             ),
                           ),
@@ -3429,16 +3430,16 @@ module _ (claims· : Claims) where
                     ),
                   ),
                 ),
-                Match.each-below 2 (λ j. (Unit {0} × (Run.OneOf (1 ∷ []) j →
-                    ⊥)) × (Run.OneOf (0 ∷ []) j → ⊥) → ⊥) (λ n. n .0 .1 Path'.refl, (λ n. n .1 Path'.refl, tt)) (Declared.tagOf Ready.the-type
-                    (Row.get 13 (T26 .locals) (m16 record {
+                Match.each-below 2 (λ j. (Unit {0} ×
+                    (Run.OneOf (1 ∷ []) j → ⊥)) × (Run.OneOf (0 ∷ []) j → ⊥) → ⊥) (λ n. n .0 .1 Path'.refl, (λ n. n .1 Path'.refl, tt))
+                    (Declared.tagOf Ready.the-type (Row.get 13 (T26 .locals) (m16 record {
                       before = record
-                          { before = record { before = c .before; second = c .second }; t = record { given = g } };
+                          { before = record { before = c .before; second = c .second }; terms = record { given = g } };
                       slice-known3 = record
                           { given = g' };
                     } g''))) (Match.tag-small Ready.the-type (Row.get 13 (T26 .locals) (m16 record {
                       before = record
-                          { before = record { before = c .before; second = c .second }; t = record { given = g } };
+                          { before = record { before = c .before; second = c .second }; terms = record { given = g } };
                       slice-known3 = record
                           { given = g' };
                     } g''))),
@@ -3532,17 +3533,17 @@ module _ (claims· : Claims) where
           asked = λ a good pre bs. laid record {
             κs = κs;
             args = record {
-              f = a .0;
-              t = a .1 .0;
-              w = a .1 .1 .0;
-              k = a .1 .1 .1 .0;
-              m =
-                  a .1 .1 .1 .1 .0;
-              st = a .1 .1 .1 .1 .1 .0;
-              q = a .1 .1 .1 .1 .1 .1 .0;
-              i = a .1 .1 .1 .1 .1 .1 .1 .0;
-              j = a .1 .1 .1 .1
-                  .1 .1 .1 .1 .0;
+              words = a .0;
+              terms = a .1 .0;
+              work = a .1 .1 .0;
+              names = a .1
+                  .1 .1 .0;
+              limits = a .1 .1 .1 .1 .0;
+              state = a .1 .1 .1 .1 .1 .0;
+              sequent = a .1 .1 .1 .1 .1 .1 .0;
+              i = a .1 .1 .1 .1 .1
+                  .1 .1 .0;
+              j = a .1 .1 .1 .1 .1 .1 .1 .1 .0;
             };
             good = good;
             fits = record
@@ -3552,8 +3553,8 @@ module _ (claims· : Claims) where
           }
 
         module _ {M : Type 1} (𝓤 : URA.URA M) (H : Wp.Heap 𝓤) (A : Atoms.Atoms 𝓤) (W : Kit.Given 𝓤 H A) (𝓣 : Wp.Tables 𝓤 H) (known0 :
-            Plain.Known 𝓤 H A W 𝓣 3 ps·0 r·0 (claims· .0) (claims· .1) "premises::second") (known1 : Plain.Known 𝓤 H A W 𝓣 4 ps·1 r·1
-            (claims· .2) (claims· .3) "prove::left") where
+            Plain.Known 𝓤 H A W 𝓣 3 ps·0 r·0 (claims· .0) (claims· .1) "search_premises::second") (known1 : Plain.Known 𝓤 H A W 𝓣 4 ps·1
+            r·1 (claims· .2) (claims· .3) "prove::left") where
           pub spec : Statement.Triple 𝓤 (Wp.WpFn 𝓤 H (𝓣 .C) (𝓣 .Λ) (Function.fnOf 4 ps r xs m hs body)) (Function.plainOf 𝓤 H A 4 ps r
               Pre· Post·)
           spec = Plain.t-fn-plain 𝓤 H A W 𝓣 4 ps r xs m hs body (λ κs qs bs. Φ) (λ κs qs bs bd. typed κs qs 𝓤 H A W 𝓣 (known0, known1)

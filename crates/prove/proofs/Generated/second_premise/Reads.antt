@@ -40,60 +40,60 @@ module _ (κs : Lifetimes.Lfts 4) where
       Clauses.AtExit (Kinds'.endedOf 4 Kinds.ps Kinds.r) κs) → (w : World.World) → World.Pr w
   ensures = λ a g r s w. second_premise.clauses (w .𝓤) (w .H) (w .𝓖 .A) (w .𝓜 .mem) (w .𝓡 .run) κs a .ensures g r s
 
-  abbrev pub requires-1·read : (a : World.ArgsD second_premise.signature κs) → (g : Ghost) → Read.Read (World.In
-      second_premise.signature κs a) Read.no-know λ w. second_premise.requires-1 (w .𝓤) (w .H) κs (w .𝓖 .A) (w .𝓜 .mem) (w .𝓡 .run) (a
-      .0) (a .1 .0) (a .1 .1 .0) (a .1 .1 .1 .0) (a .1 .1 .1 .1 .0) (a .1 .1 .1 .1 .1 .0) (a .1 .1 .1 .1 .1 .1 .0) (a .1 .1 .1 .1 .1 .1
-      .1 .0) (a .1 .1 .1 .1 .1 .1 .1 .1 .0)
-  requires-1·read = λ a g. Read.all-models (λ w. second_premise.requires-1 (w .𝓤) (w .H) κs (w .𝓖 .A) (w .𝓜 .mem) (w .𝓡 .run) (a .0) (a
-      .1 .0) (a .1 .1 .0) (a .1 .1 .1 .0) (a .1 .1 .1 .1 .0) (a .1 .1 .1 .1 .1 .0) (a .1 .1 .1 .1 .1 .1 .0) (a .1 .1 .1 .1 .1 .1 .1 .0)
-      (a .1 .1 .1 .1 .1 .1 .1 .1 .0)) (λ w. Read.r-last _) (λ w. Path'.refl) (λ w. Path'.refl) λ w. Path'.refl
+  abbrev pub requires-represented·read : (a : World.ArgsD second_premise.signature κs) → (g : Ghost) → Read.Read (World.In
+      second_premise.signature κs a) Read.no-know λ w. second_premise.requires-represented (w .𝓤) (w .H) κs (w .𝓖 .A) (w .𝓜 .mem) (w .𝓡
+      .run) (a .0) (a .1 .0) (a .1 .1 .0) (a .1 .1 .1 .0) (a .1 .1 .1 .1 .0) (a .1 .1 .1 .1 .1 .0) (a .1 .1 .1 .1 .1 .1 .0) (a .1 .1 .1
+      .1 .1 .1 .1 .0) (a .1 .1 .1 .1 .1 .1 .1 .1 .0)
+  requires-represented·read = λ a g. Read.all-models (λ w. second_premise.requires-represented (w .𝓤) (w .H) κs (w .𝓖 .A) (w .𝓜 .mem) (w
+      .𝓡 .run) (a .0) (a .1 .0) (a .1 .1 .0) (a .1 .1 .1 .0) (a .1 .1 .1 .1 .0) (a .1 .1 .1 .1 .1 .0) (a .1 .1 .1 .1 .1 .1 .0) (a .1 .1
+      .1 .1 .1 .1 .1 .0) (a .1 .1 .1 .1 .1 .1 .1 .1 .0)) (λ w. Read.r-last _) (λ w. Path'.refl) (λ w. Path'.refl) λ w. Path'.refl
 
-  abbrev pub requires-2·read : (a : World.ArgsD second_premise.signature κs) → (g : Ghost) → Read.Read (World.In
-      second_premise.signature κs a) Read.no-know λ w. second_premise.requires-2 (w .𝓤) (w .H) κs (w .𝓖 .A) (w .𝓜 .mem) (w .𝓡 .run) (a
+  abbrev pub requires-few·read : (a : World.ArgsD second_premise.signature κs) → (g : Ghost) → Read.Read (World.In
+      second_premise.signature κs a) Read.no-know λ w. second_premise.requires-few (w .𝓤) (w .H) κs (w .𝓖 .A) (w .𝓜 .mem) (w .𝓡 .run) (a
       .0) (a .1 .0) (a .1 .1 .0) (a .1 .1 .1 .0) (a .1 .1 .1 .1 .0) (a .1 .1 .1 .1 .1 .0) (a .1 .1 .1 .1 .1 .1 .0) (a .1 .1 .1 .1 .1 .1
       .1 .0) (a .1 .1 .1 .1 .1 .1 .1 .1 .0)
-  requires-2·read = λ a g. Read.all-models (λ w. second_premise.requires-2 (w .𝓤) (w .H) κs (w .𝓖 .A) (w .𝓜 .mem) (w .𝓡 .run) (a .0) (a
-      .1 .0) (a .1 .1 .0) (a .1 .1 .1 .0) (a .1 .1 .1 .1 .0) (a .1 .1 .1 .1 .1 .0) (a .1 .1 .1 .1 .1 .1 .0) (a .1 .1 .1 .1 .1 .1 .1 .0)
-      (a .1 .1 .1 .1 .1 .1 .1 .1 .0)) (λ w. Read.r-last _) (λ w. Path'.refl) (λ w. Path'.refl) λ w. Path'.refl
+  requires-few·read = λ a g. Read.all-models (λ w. second_premise.requires-few (w .𝓤) (w .H) κs (w .𝓖 .A) (w .𝓜 .mem) (w .𝓡 .run) (a .0)
+      (a .1 .0) (a .1 .1 .0) (a .1 .1 .1 .0) (a .1 .1 .1 .1 .0) (a .1 .1 .1 .1 .1 .0) (a .1 .1 .1 .1 .1 .1 .0) (a .1 .1 .1 .1 .1 .1 .1
+      .0) (a .1 .1 .1 .1 .1 .1 .1 .1 .0)) (λ w. Read.r-last _) (λ w. Path'.refl) (λ w. Path'.refl) λ w. Path'.refl
 
-  abbrev pub requires-3·read : (a : World.ArgsD second_premise.signature κs) → (g : Ghost) → Read.Read (World.In
-      second_premise.signature κs a) Read.no-know λ w. second_premise.requires-3 (w .𝓤) (w .H) κs (w .𝓖 .A) (w .𝓜 .mem) (w .𝓡 .run) (a
-      .0) (a .1 .0) (a .1 .1 .0) (a .1 .1 .1 .0) (a .1 .1 .1 .1 .0) (a .1 .1 .1 .1 .1 .0) (a .1 .1 .1 .1 .1 .1 .0) (a .1 .1 .1 .1 .1 .1
-      .1 .0) (a .1 .1 .1 .1 .1 .1 .1 .1 .0)
-  requires-3·read = λ a g. Read.all-models (λ w. second_premise.requires-3 (w .𝓤) (w .H) κs (w .𝓖 .A) (w .𝓜 .mem) (w .𝓡 .run) (a .0) (a
-      .1 .0) (a .1 .1 .0) (a .1 .1 .1 .0) (a .1 .1 .1 .1 .0) (a .1 .1 .1 .1 .1 .0) (a .1 .1 .1 .1 .1 .1 .0) (a .1 .1 .1 .1 .1 .1 .1 .0)
-      (a .1 .1 .1 .1 .1 .1 .1 .1 .0)) (λ w. Read.r-last _) (λ w. Path'.refl) (λ w. Path'.refl) λ w. Path'.refl
+  abbrev pub requires-nested·read : (a : World.ArgsD second_premise.signature κs) → (g : Ghost) → Read.Read (World.In
+      second_premise.signature κs a) Read.no-know λ w. second_premise.requires-nested (w .𝓤) (w .H) κs (w .𝓖 .A) (w .𝓜 .mem) (w .𝓡 .run)
+      (a .0) (a .1 .0) (a .1 .1 .0) (a .1 .1 .1 .0) (a .1 .1 .1 .1 .0) (a .1 .1 .1 .1 .1 .0) (a .1 .1 .1 .1 .1 .1 .0) (a .1 .1 .1 .1 .1
+      .1 .1 .0) (a .1 .1 .1 .1 .1 .1 .1 .1 .0)
+  requires-nested·read = λ a g. Read.all-models (λ w. second_premise.requires-nested (w .𝓤) (w .H) κs (w .𝓖 .A) (w .𝓜 .mem) (w .𝓡 .run)
+      (a .0) (a .1 .0) (a .1 .1 .0) (a .1 .1 .1 .0) (a .1 .1 .1 .1 .0) (a .1 .1 .1 .1 .1 .0) (a .1 .1 .1 .1 .1 .1 .0) (a .1 .1 .1 .1 .1
+      .1 .1 .0) (a .1 .1 .1 .1 .1 .1 .1 .1 .0)) (λ w. Read.r-last _) (λ w. Path'.refl) (λ w. Path'.refl) λ w. Path'.refl
 
-  abbrev pub requires-4·read : (a : World.ArgsD second_premise.signature κs) → (g : Ghost) → Read.Read (World.In
-      second_premise.signature κs a) Read.no-know λ w. second_premise.requires-4 (w .𝓤) (w .H) κs (w .𝓖 .A) (w .𝓜 .mem) (w .𝓡 .run) (a
+  abbrev pub requires-proof·read : (a : World.ArgsD second_premise.signature κs) → (g : Ghost) → Read.Read (World.In
+      second_premise.signature κs a) Read.no-know λ w. second_premise.requires-proof (w .𝓤) (w .H) κs (w .𝓖 .A) (w .𝓜 .mem) (w .𝓡 .run)
+      (a .0) (a .1 .0) (a .1 .1 .0) (a .1 .1 .1 .0) (a .1 .1 .1 .1 .0) (a .1 .1 .1 .1 .1 .0) (a .1 .1 .1 .1 .1 .1 .0) (a .1 .1 .1 .1 .1
+      .1 .1 .0) (a .1 .1 .1 .1 .1 .1 .1 .1 .0)
+  requires-proof·read = λ a g. Read.all-models (λ w. second_premise.requires-proof (w .𝓤) (w .H) κs (w .𝓖 .A) (w .𝓜 .mem) (w .𝓡 .run) (a
       .0) (a .1 .0) (a .1 .1 .0) (a .1 .1 .1 .0) (a .1 .1 .1 .1 .0) (a .1 .1 .1 .1 .1 .0) (a .1 .1 .1 .1 .1 .1 .0) (a .1 .1 .1 .1 .1 .1
-      .1 .0) (a .1 .1 .1 .1 .1 .1 .1 .1 .0)
-  requires-4·read = λ a g. Read.all-models (λ w. second_premise.requires-4 (w .𝓤) (w .H) κs (w .𝓖 .A) (w .𝓜 .mem) (w .𝓡 .run) (a .0) (a
-      .1 .0) (a .1 .1 .0) (a .1 .1 .1 .0) (a .1 .1 .1 .1 .0) (a .1 .1 .1 .1 .1 .0) (a .1 .1 .1 .1 .1 .1 .0) (a .1 .1 .1 .1 .1 .1 .1 .0)
-      (a .1 .1 .1 .1 .1 .1 .1 .1 .0)) (λ w. Read.r-last _) (λ w. Path'.refl) (λ w. Path'.refl) λ w. Path'.refl
+      .1 .0) (a .1 .1 .1 .1 .1 .1 .1 .1 .0)) (λ w. Read.r-last _) (λ w. Path'.refl) (λ w. Path'.refl) λ w. Path'.refl
 
   abbrev pub pre-read : (a : World.ArgsD second_premise.signature κs) → (g : Ghost) → Read.Read (World.In second_premise.signature κs a)
       Read.no-know (requires a g)
-  pre-read = λ a g. Read.read-join (λ w. second_premise.requires-1 (w .𝓤) (w .H) κs (w .𝓖 .A) (w .𝓜 .mem) (w .𝓡 .run) (a .0) (a .1 .0)
-      (a .1 .1 .0) (a .1 .1 .1 .0) (a .1 .1 .1 .1 .0) (a .1 .1 .1 .1 .1 .0) (a .1 .1 .1 .1 .1 .1 .0) (a .1 .1 .1 .1 .1 .1 .1 .0) (a .1
-      .1 .1 .1 .1 .1 .1 .1 .0)) (λ w. Logic.sep (w .𝓤) (second_premise.requires-2 (w .𝓤) (w .H) κs (w .𝓖 .A) (w .𝓜 .mem) (w .𝓡 .run) (a
-      .0) (a .1 .0) (a .1 .1 .0) (a .1 .1 .1 .0) (a .1 .1 .1 .1 .0) (a .1 .1 .1 .1 .1 .0) (a .1 .1 .1 .1 .1 .1 .0) (a .1 .1 .1 .1 .1 .1
-      .1 .0) (a .1 .1 .1 .1 .1 .1 .1 .1 .0)) (Logic.sep (w .𝓤) (second_premise.requires-3 (w .𝓤) (w .H) κs (w .𝓖 .A) (w .𝓜 .mem) (w .𝓡
-      .run) (a .0) (a .1 .0) (a .1 .1 .0) (a .1 .1 .1 .0) (a .1 .1 .1 .1 .0) (a .1 .1 .1 .1 .1 .0) (a .1 .1 .1 .1 .1 .1 .0) (a .1 .1 .1
-      .1 .1 .1 .1 .0) (a .1 .1 .1 .1 .1 .1 .1 .1 .0)) (second_premise.requires-4 (w .𝓤) (w .H) κs (w .𝓖 .A) (w .𝓜 .mem) (w .𝓡 .run) (a
-      .0) (a .1 .0) (a .1 .1 .0) (a .1 .1 .1 .0) (a .1 .1 .1 .1 .0) (a .1 .1 .1 .1 .1 .0) (a .1 .1 .1 .1 .1 .1 .0) (a .1 .1 .1 .1 .1 .1
-      .1 .0) (a .1 .1 .1 .1 .1 .1 .1 .1 .0)))) (requires-1·read a g) (Read.read-join (λ w. second_premise.requires-2 (w .𝓤) (w .H) κs (w
-      .𝓖 .A) (w .𝓜 .mem) (w .𝓡 .run) (a .0) (a .1 .0) (a .1 .1 .0) (a .1 .1 .1 .0) (a .1 .1 .1 .1 .0) (a .1 .1 .1 .1 .1 .0) (a .1 .1 .1
-      .1 .1 .1 .0) (a .1 .1 .1 .1 .1 .1 .1 .0) (a .1 .1 .1 .1 .1 .1 .1 .1 .0)) (λ w. Logic.sep (w .𝓤) (second_premise.requires-3 (w .𝓤)
-      (w .H) κs (w .𝓖 .A) (w .𝓜 .mem) (w .𝓡 .run) (a .0) (a .1 .0) (a .1 .1 .0) (a .1 .1 .1 .0) (a .1 .1 .1 .1 .0) (a .1 .1 .1 .1 .1 .0)
-      (a .1 .1 .1 .1 .1 .1 .0) (a .1 .1 .1 .1 .1 .1 .1 .0) (a .1 .1 .1 .1 .1 .1 .1 .1 .0)) (second_premise.requires-4 (w .𝓤) (w .H) κs
-      (w .𝓖 .A) (w .𝓜 .mem) (w .𝓡 .run) (a .0) (a .1 .0) (a .1 .1 .0) (a .1 .1 .1 .0) (a .1 .1 .1 .1 .0) (a .1 .1 .1 .1 .1 .0) (a .1 .1
-      .1 .1 .1 .1 .0) (a .1 .1 .1 .1 .1 .1 .1 .0) (a .1 .1 .1 .1 .1 .1 .1 .1 .0))) (requires-2·read a g) (Read.read-join (λ w.
-      second_premise.requires-3 (w .𝓤) (w .H) κs (w .𝓖 .A) (w .𝓜 .mem) (w .𝓡 .run) (a .0) (a .1 .0) (a .1 .1 .0) (a .1 .1 .1 .0) (a .1
+  pre-read = λ a g. Read.read-join (λ w. second_premise.requires-represented (w .𝓤) (w .H) κs (w .𝓖 .A) (w .𝓜 .mem) (w .𝓡 .run) (a .0)
+      (a .1 .0) (a .1 .1 .0) (a .1 .1 .1 .0) (a .1 .1 .1 .1 .0) (a .1 .1 .1 .1 .1 .0) (a .1 .1 .1 .1 .1 .1 .0) (a .1 .1 .1 .1 .1 .1 .1
+      .0) (a .1 .1 .1 .1 .1 .1 .1 .1 .0)) (λ w. Logic.sep (w .𝓤) (second_premise.requires-few (w .𝓤) (w .H) κs (w .𝓖 .A) (w .𝓜 .mem) (w
+      .𝓡 .run) (a .0) (a .1 .0) (a .1 .1 .0) (a .1 .1 .1 .0) (a .1 .1 .1 .1 .0) (a .1 .1 .1 .1 .1 .0) (a .1 .1 .1 .1 .1 .1 .0) (a .1 .1
+      .1 .1 .1 .1 .1 .0) (a .1 .1 .1 .1 .1 .1 .1 .1 .0)) (Logic.sep (w .𝓤) (second_premise.requires-nested (w .𝓤) (w .H) κs (w .𝓖 .A) (w
+      .𝓜 .mem) (w .𝓡 .run) (a .0) (a .1 .0) (a .1 .1 .0) (a .1 .1 .1 .0) (a .1 .1 .1 .1 .0) (a .1 .1 .1 .1 .1 .0) (a .1 .1 .1 .1 .1 .1
+      .0) (a .1 .1 .1 .1 .1 .1 .1 .0) (a .1 .1 .1 .1 .1 .1 .1 .1 .0)) (second_premise.requires-proof (w .𝓤) (w .H) κs (w .𝓖 .A) (w .𝓜
+      .mem) (w .𝓡 .run) (a .0) (a .1 .0) (a .1 .1 .0) (a .1 .1 .1 .0) (a .1 .1 .1 .1 .0) (a .1 .1 .1 .1 .1 .0) (a .1 .1 .1 .1 .1 .1 .0)
+      (a .1 .1 .1 .1 .1 .1 .1 .0) (a .1 .1 .1 .1 .1 .1 .1 .1 .0)))) (requires-represented·read a g) (Read.read-join (λ w.
+      second_premise.requires-few (w .𝓤) (w .H) κs (w .𝓖 .A) (w .𝓜 .mem) (w .𝓡 .run) (a .0) (a .1 .0) (a .1 .1 .0) (a .1 .1 .1 .0) (a .1
       .1 .1 .1 .0) (a .1 .1 .1 .1 .1 .0) (a .1 .1 .1 .1 .1 .1 .0) (a .1 .1 .1 .1 .1 .1 .1 .0) (a .1 .1 .1 .1 .1 .1 .1 .1 .0)) (λ w.
-      second_premise.requires-4 (w .𝓤) (w .H) κs (w .𝓖 .A) (w .𝓜 .mem) (w .𝓡 .run) (a .0) (a .1 .0) (a .1 .1 .0) (a .1 .1 .1 .0) (a .1
-      .1 .1 .1 .0) (a .1 .1 .1 .1 .1 .0) (a .1 .1 .1 .1 .1 .1 .0) (a .1 .1 .1 .1 .1 .1 .1 .0) (a .1 .1 .1 .1 .1 .1 .1 .1 .0))
-      (requires-3·read a g) (requires-4·read a g)))
+      Logic.sep (w .𝓤) (second_premise.requires-nested (w .𝓤) (w .H) κs (w .𝓖 .A) (w .𝓜 .mem) (w .𝓡 .run) (a .0) (a .1 .0) (a .1 .1 .0)
+      (a .1 .1 .1 .0) (a .1 .1 .1 .1 .0) (a .1 .1 .1 .1 .1 .0) (a .1 .1 .1 .1 .1 .1 .0) (a .1 .1 .1 .1 .1 .1 .1 .0) (a .1 .1 .1 .1 .1 .1
+      .1 .1 .0)) (second_premise.requires-proof (w .𝓤) (w .H) κs (w .𝓖 .A) (w .𝓜 .mem) (w .𝓡 .run) (a .0) (a .1 .0) (a .1 .1 .0) (a .1
+      .1 .1 .0) (a .1 .1 .1 .1 .0) (a .1 .1 .1 .1 .1 .0) (a .1 .1 .1 .1 .1 .1 .0) (a .1 .1 .1 .1 .1 .1 .1 .0) (a .1 .1 .1 .1 .1 .1 .1 .1
+      .0))) (requires-few·read a g) (Read.read-join (λ w. second_premise.requires-nested (w .𝓤) (w .H) κs (w .𝓖 .A) (w .𝓜 .mem) (w .𝓡
+      .run) (a .0) (a .1 .0) (a .1 .1 .0) (a .1 .1 .1 .0) (a .1 .1 .1 .1 .0) (a .1 .1 .1 .1 .1 .0) (a .1 .1 .1 .1 .1 .1 .0) (a .1 .1 .1
+      .1 .1 .1 .1 .0) (a .1 .1 .1 .1 .1 .1 .1 .1 .0)) (λ w. second_premise.requires-proof (w .𝓤) (w .H) κs (w .𝓖 .A) (w .𝓜 .mem) (w .𝓡
+      .run) (a .0) (a .1 .0) (a .1 .1 .0) (a .1 .1 .1 .0) (a .1 .1 .1 .1 .0) (a .1 .1 .1 .1 .1 .0) (a .1 .1 .1 .1 .1 .1 .0) (a .1 .1 .1
+      .1 .1 .1 .1 .0) (a .1 .1 .1 .1 .1 .1 .1 .1 .0)) (requires-nested·read a g) (requires-proof·read a g)))
 
   abbrev pub ensures-1·read : (a : World.ArgsD second_premise.signature κs) → (g : Ghost) → (r : World.ResD second_premise.signature κs)
       → (s : Clauses.AtExit (Kinds'.endedOf 4 Kinds.ps Kinds.r) κs) → Read.Read (Base a) (Owned r s) λ w. second_premise.ensures-1 (w

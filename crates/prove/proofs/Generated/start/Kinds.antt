@@ -1,7 +1,7 @@
 -- Made by tools/records.py from the sources; antt refuses it where it is stale. Assumes nothing.
-use Rattle.context.proofs.Answer
-use Rattle.context.proofs.Answer.Laws
 use Rattle.context.proofs.Element
+use Rattle.meter.proofs.Answer
+use Rattle.meter.proofs.Answer.Laws
 use borrow.Fn.Kinds
 use borrow.Kind.MutSlice
 use borrow.Kind.ShrSlice

@@ -1,14 +1,14 @@
 -- Made by tools/records.py from the sources; antt refuses it where it is stale. Assumes nothing.
 use Prim.Native.Nat
-use Rattle.context.proofs.Answer
-use Rattle.context.proofs.Answer.Laws
 use Rattle.context.proofs.Element
-use Rattle.context.proofs.Limits
-use Rattle.context.proofs.Limits.Laws as Laws'
-use Rattle.context.proofs.Sequent
-use Rattle.context.proofs.Sequent.Laws as Laws''
-use Rattle.context.proofs.State
-use Rattle.context.proofs.State.Laws as Laws'3
+use Rattle.meter.proofs.Answer
+use Rattle.meter.proofs.Answer.Laws
+use Rattle.meter.proofs.Limits
+use Rattle.meter.proofs.Limits.Laws as Laws'
+use Rattle.meter.proofs.Sequent
+use Rattle.meter.proofs.Sequent.Laws as Laws''
+use Rattle.meter.proofs.State
+use Rattle.meter.proofs.State.Laws as Laws'3
 use borrow.Author.Called
 use borrow.Author.Tests
 use borrow.Enum.Make
@@ -71,15 +71,15 @@ abbrev y0 : Syntax.Ty
 y0 = Syntax.tyInt Syntax.w64
 
 abbrev y1 : Syntax.Ty
-y1 = Syntax.tyStruct (99 ∷ 111 ∷ 110 ∷ 116 ∷ 101 ∷ 120 ∷ 116 ∷ 58 ∷ 58 ∷ 76 ∷ 105 ∷ 109 ∷ 105 ∷ 116 ∷ 115 ∷ []) (Syntax.tcons y0
-    (Syntax.tcons y0 (Syntax.tcons y0 (Syntax.tcons y0 Syntax.tnil))))
+y1 = Syntax.tyStruct (109 ∷ 101 ∷ 116 ∷ 101 ∷ 114 ∷ 58 ∷ 58 ∷ 76 ∷ 105 ∷ 109 ∷ 105 ∷ 116 ∷ 115 ∷ []) (Syntax.tcons y0 (Syntax.tcons y0
+    (Syntax.tcons y0 (Syntax.tcons y0 Syntax.tnil))))
 
 abbrev y2 : Syntax.Ty
-y2 = Syntax.tyStruct (99 ∷ 111 ∷ 110 ∷ 116 ∷ 101 ∷ 120 ∷ 116 ∷ 58 ∷ 58 ∷ 83 ∷ 116 ∷ 97 ∷ 116 ∷ 101 ∷ []) (Syntax.tcons y0 (Syntax.tcons
-    y0 (Syntax.tcons y0 (Syntax.tcons y0 Syntax.tnil))))
+y2 = Syntax.tyStruct (109 ∷ 101 ∷ 116 ∷ 101 ∷ 114 ∷ 58 ∷ 58 ∷ 83 ∷ 116 ∷ 97 ∷ 116 ∷ 101 ∷ []) (Syntax.tcons y0 (Syntax.tcons y0
+    (Syntax.tcons y0 (Syntax.tcons y0 Syntax.tnil))))
 
 abbrev y3 : Syntax.Ty
-y3 = Syntax.tyStruct (99 ∷ 111 ∷ 110 ∷ 116 ∷ 101 ∷ 120 ∷ 116 ∷ 58 ∷ 58 ∷ 83 ∷ 101 ∷ 113 ∷ 117 ∷ 101 ∷ 110 ∷ 116 ∷ []) (Syntax.tcons y0
+y3 = Syntax.tyStruct (109 ∷ 101 ∷ 116 ∷ 101 ∷ 114 ∷ 58 ∷ 58 ∷ 83 ∷ 101 ∷ 113 ∷ 117 ∷ 101 ∷ 110 ∷ 116 ∷ []) (Syntax.tcons y0
     (Syntax.tcons y0 (Syntax.tcons y0 (Syntax.tcons y0 Syntax.tnil))))
 
 abbrev y4 : Syntax.Ty
@@ -107,9 +107,9 @@ abbrev y11 : Syntax.Ty
 y11 = Syntax.tyStruct (38 ∷ 91 ∷ 93 ∷ []) (Syntax.tcons y10 (Syntax.tcons y0 Syntax.tnil))
 
 abbrev y12 : Syntax.Ty
-y12 = Syntax.tyEnum (99 ∷ 111 ∷ 110 ∷ 116 ∷ 101 ∷ 120 ∷ 116 ∷ 58 ∷ 58 ∷ 65 ∷ 110 ∷ 115 ∷ 119 ∷ 101 ∷ 114 ∷ []) (Syntax.ttcons
-    (Syntax.tcons y0 (Syntax.tcons y2 Syntax.tnil)) (Syntax.ttcons (Syntax.tcons y2 Syntax.tnil) (Syntax.ttcons (Syntax.tcons y0
-    (Syntax.tcons y2 Syntax.tnil)) Syntax.ttnil)))
+y12 = Syntax.tyEnum (109 ∷ 101 ∷ 116 ∷ 101 ∷ 114 ∷ 58 ∷ 58 ∷ 65 ∷ 110 ∷ 115 ∷ 119 ∷ 101 ∷ 114 ∷ []) (Syntax.ttcons (Syntax.tcons y0
+    (Syntax.tcons y2 Syntax.tnil)) (Syntax.ttcons (Syntax.tcons y2 Syntax.tnil) (Syntax.ttcons (Syntax.tcons y0 (Syntax.tcons y2
+    Syntax.tnil)) Syntax.ttnil)))
 
 abbrev y13 : Row.Entry
 y13 = (0, Rows.any-gone y12)
@@ -457,8 +457,8 @@ abbrev b2 : Syntax.Body
 b2 = Syntax.assign (Syntax.place 15 []) (Syntax.rvOpd (Syntax.copy (Syntax.place 3 ((Syntax.field 1) ∷ []))))
 
 abbrev b3 : Syntax.Body
-b3 = Syntax.call "claim::limits" ((Syntax.copy (Syntax.place 13 [])) ∷ (Syntax.copy (Syntax.place 14 [])) ∷ (Syntax.copy (Syntax.place
-    15 [])) ∷ (Syntax.copy (Syntax.place 8 [])) ∷ []) (Syntax.place 9 [])
+b3 = Syntax.call "call::limits" ((Syntax.copy (Syntax.place 13 [])) ∷ (Syntax.copy (Syntax.place 14 [])) ∷ (Syntax.copy (Syntax.place 15
+    [])) ∷ (Syntax.copy (Syntax.place 8 [])) ∷ []) (Syntax.place 9 [])
 
 abbrev b4 : Syntax.Body
 b4 = Syntax.assign (Syntax.place 13 []) (Syntax.rvOpd (Syntax.copy (Syntax.place 5 ((Syntax.field 1) ∷ []))))
@@ -512,8 +512,8 @@ b18 = Syntax.assign (Syntax.place 20 []) (Syntax.aggregate ((Syntax.copy (Syntax
     ((Syntax.field 1) ∷ []))) ∷ []))
 
 abbrev b19 : Syntax.Body
-b19 = Syntax.call "claim::assume" ((Syntax.copy (Syntax.place 18 [])) ∷ (Syntax.copy (Syntax.place 20 [])) ∷ (Syntax.copy (Syntax.place
-    5 [])) ∷ (Syntax.copy (Syntax.place 7 [])) ∷ []) (Syntax.place 12 [])
+b19 = Syntax.call "call::assume" ((Syntax.copy (Syntax.place 18 [])) ∷ (Syntax.copy (Syntax.place 20 [])) ∷ (Syntax.copy (Syntax.place 5
+    [])) ∷ (Syntax.copy (Syntax.place 7 [])) ∷ []) (Syntax.place 12 [])
 
 abbrev b20 : Syntax.Body
 b20 = Syntax.assign (Syntax.place 21 []) (Syntax.addrOf (Syntax.place 1 ((Syntax.field 0) ∷ (Syntax.deref y9) ∷ [])))
@@ -1160,8 +1160,8 @@ module _ (claims· : Claims) where
     module _ (M : Type 1) where
       abbrev pub Closed : Type 2
       Closed = (𝓤 : URA.URA M) (H : Wp.Heap 𝓤) (A : Atoms.Atoms 𝓤) (W : Kit.Given 𝓤 H A) (𝓣 : Wp.Tables 𝓤 H) (known0 : Plain.Known 𝓤 H A
-          W 𝓣 0 ps·0 r·0 (claims· .0) (claims· .1) "claim::limits") (known1 : Plain.Known 𝓤 H A W 𝓣 3 ps·1 r·1 (claims· .2) (claims· .3)
-          "claim::assume") (known2 : Plain.Known 𝓤 H A W 𝓣 4 ps·2 r·2 (claims· .4) (claims· .5) "prove::right") → Statement.Triple 𝓤
+          W 𝓣 0 ps·0 r·0 (claims· .0) (claims· .1) "call::limits") (known1 : Plain.Known 𝓤 H A W 𝓣 3 ps·1 r·1 (claims· .2) (claims· .3)
+          "call::assume") (known2 : Plain.Known 𝓤 H A W 𝓣 4 ps·2 r·2 (claims· .4) (claims· .5) "prove::right") → Statement.Triple 𝓤
           (Wp.WpFn 𝓤 H (𝓣 .C) (𝓣 .Λ) (Function.fnOf 5 ps r xs m hs body)) (Function.plainOf 𝓤 H A 5 ps r Pre· Post·)
 
     module _ where
@@ -1395,8 +1395,8 @@ module _ (claims· : Claims) where
 
       module _ {M : Type 1} (𝓤 : URA.URA M) (H : Wp.Heap 𝓤) (A : Atoms.Atoms 𝓤) (W : Kit.Given 𝓤 H A) (𝓣 : Wp.Tables 𝓤 H) where
         abbrev Knowns : Type 1
-        Knowns = Plain.Known 𝓤 H A W 𝓣 0 ps·0 r·0 (claims· .0) (claims· .1) "claim::limits" × Plain.Known 𝓤 H A W 𝓣 3 ps·1 r·1 (claims·
-            .2) (claims· .3) "claim::assume" × Plain.Known 𝓤 H A W 𝓣 4 ps·2 r·2 (claims· .4) (claims· .5) "prove::right"
+        Knowns = Plain.Known 𝓤 H A W 𝓣 0 ps·0 r·0 (claims· .0) (claims· .1) "call::limits" × Plain.Known 𝓤 H A W 𝓣 3 ps·1 r·1 (claims·
+            .2) (claims· .3) "call::assume" × Plain.Known 𝓤 H A W 𝓣 4 ps·2 r·2 (claims· .4) (claims· .5) "prove::right"
 
       module _ (κs : Lifetimes.Lfts 5) (qs : Lifetimes.Shares 5) where
         abbrev g20 : List.List Row.Entry
@@ -2213,7 +2213,7 @@ module _ (claims· : Claims) where
 
           d50 : Typed.Typed 𝓤 H A 𝓣 E G36 b35 Δ0 at50
           d50 = Typed.s-seq 𝓤 H A W 𝓣 E G36 G37 b19 b34 Δ0 (Typed.both s34) at49 (Plain.t-call-plain 𝓤 H A W 𝓣 3 ps·1 r·1 (claims· .2)
-              (claims· .3) "claim::assume" (known .1) E (λ pos β. β) G36 (
+              (claims· .3) "call::assume" (known .1) E (λ pos β. β) G36 (
                 record
                     { pos = 18; ty = Syntax.tyRef Syntax.erased Syntax.mut y4; ref = λ x. x },
                 (
@@ -2361,7 +2361,7 @@ module _ (claims· : Claims) where
           d59 = Typed.s-seq 𝓤 H A W 𝓣 E G16 G28 b13 b40 Δ0 (Typed.pass T16 T28 s25) at58 (Scalar.t-use 𝓤 H A W E 𝓣 G16 (Scalar.oFld 5
               ((Syntax.field 1) ∷ []) y0 8 Shared.lenV) 15 (Rows.sc-here (Row.sInt Syntax.w64)) y0 (Row.valS (Row.sInt Syntax.w64))
               (Row.sInt Syntax.w64 .of)
-              (Shared.reads-sslice-len 𝓤 H A W (Referent.rtF (Referent.fInt Syntax.w16)) y22 4 8 Path'.refl, Path'.refl)  -- told apart: 1.
+              (Shared.reads-sslice-len 𝓤 H A W (Referent.rtF (Referent.fInt Syntax.w16)) y22 4 8 Path'.refl, Path'.refl)
               (Reads'.room-gone 𝓤 H A y0) (Scalar.holds-sc 𝓤 H A W (Row.sInt Syntax.w64)) Path'.refl (λ u. Path'.refl) λ u. tt) d58
 
           d60 : Typed.Typed 𝓤 H A 𝓣 E G15 b42 Δ0 at60
@@ -2400,7 +2400,7 @@ module _ (claims· : Claims) where
 
           d67 : Typed.Typed 𝓤 H A 𝓣 E G8 b45 Δ0 at67
           d67 = Typed.s-seq 𝓤 H A W 𝓣 E G8 G9 b3 b44 Δ0 (Typed.both s7) at66 (Plain.t-call-plain 𝓤 H A W 𝓣 0 ps·0 r·0 (claims· .0)
-              (claims· .1) "claim::limits" (known .0) E (λ pos β. β) G8
+              (claims· .1) "call::limits" (known .0) E (λ pos β. β) G8
               (Num.vAt 13 λ x. x, (Num.vAt 14 λ x. x, (Num.vAt 15 λ x. x, (Num.vAt 8 λ x. x, tt)))) 9 [] (Call.sub-id 𝓤 H A W (G8
               .slots)) (
                 (Scalar.reads-sc 𝓤 H A W (Row.sInt Syntax.w64), Path'.refl),
@@ -2458,9 +2458,9 @@ module _ (claims· : Claims) where
 
       module _ (κs : Lifetimes.Lfts 5) where
         pub record Args : Type 0 where
-          pub f : Kinds.Den {n = 5} κs (MutSlice.pMutS (Referent.rtF (Referent.fInt Syntax.w32)) 0 tt)
-          pub t : Kinds.Den {n = 5} κs (MutSlice.pMutS (Referent.rtF (Referent.fInt Syntax.w16)) 1 tt)
-          pub w : Kinds.Den {n = 5} κs (MutSlice.pMutS Element.row 2 tt)
+          pub words : Kinds.Den {n = 5} κs (MutSlice.pMutS (Referent.rtF (Referent.fInt Syntax.w32)) 0 tt)
+          pub terms : Kinds.Den {n = 5} κs (MutSlice.pMutS (Referent.rtF (Referent.fInt Syntax.w16)) 1 tt)
+          pub work : Kinds.Den {n = 5} κs (MutSlice.pMutS Element.row 2 tt)
           pub names : Kinds.Den {n = 5} κs (ShrSlice.pShrS (Referent.rtF (Referent.fInt Syntax.w8)) 3 tt)
           pub assumed : Kinds.Den {n = 5} κs (ShrSlice.pShrS (Referent.rtF (Referent.fInt Syntax.w16)) 4 tt)
           pub count : Kinds.Den {n = 5} κs (Num.pNum Syntax.w64)
@@ -2468,7 +2468,7 @@ module _ (claims· : Claims) where
           pub steps : Kinds.Den {n = 5} κs (Num.pNum Syntax.w64)
 
         abbrev pub dens : (a : Args) → Kinds.Dens κs ps
-        dens = λ a. (a .f, (a .t, (a .w, (a .names, (a .assumed, (a .count, (a .goal, (a .steps, tt))))))))
+        dens = λ a. (a .words, (a .terms, (a .work, (a .names, (a .assumed, (a .count, (a .goal, (a .steps, tt))))))))
 
         module _ (args· : Args) where
           pub record Ranges : Type 0 where
@@ -2749,22 +2749,22 @@ module _ (claims· : Claims) where
       m34 = λ before given. s36 .next (m33 (before .before) (After-assume·gave before)) given
 
       module _ (before· : After-assume) where
-        pub record After-t·own : Type 0 where
+        pub record After-terms·own : Type 0 where
           pub given : s36 .gives (m33 (before· .before) (After-assume·gave before·))
 
-      pub record After-t : Type 0 where
+      pub record After-terms : Type 0 where
         pub before : After-assume
-        pub t : After-t·own before
+        pub terms : After-terms·own before
 
-      abbrev pub m35 : (before : After-t) → (given : s37 .gives (m34 (before .before) (before .t .given))) → Typed.Mo T40
-      m35 = λ before given. s37 .next (m34 (before .before) (before .t .given)) given
+      abbrev pub m35 : (before : After-terms) → (given : s37 .gives (m34 (before .before) (before .terms .given))) → Typed.Mo T40
+      m35 = λ before given. s37 .next (m34 (before .before) (before .terms .given)) given
 
-      module _ (before· : After-t) where
+      module _ (before· : After-terms) where
         pub record After-slice-known3·own : Type 0 where
-          pub given : s37 .gives (m34 (before· .before) (before· .t .given))
+          pub given : s37 .gives (m34 (before· .before) (before· .terms .given))
 
       pub record After-slice-known3 : Type 0 where
-        pub before : After-t
+        pub before : After-terms
         pub slice-known3 : After-slice-known3·own before
 
       abbrev pub m36 : (before : After-slice-known3) → (given : s40 .gives (m35 (before .before) (before .slice-known3 .given))) →
@@ -2772,25 +2772,25 @@ module _ (claims· : Claims) where
       m36 = λ before given. s40 .next (m35 (before .before) (before .slice-known3 .given)) given
 
       module _ (before· : After-slice-known3) where
-        pub record After-w·own : Type 0 where
+        pub record After-work·own : Type 0 where
           pub given : s40 .gives (m35 (before· .before) (before· .slice-known3 .given))
 
-      pub record After-w : Type 0 where
+      pub record After-work : Type 0 where
         pub before : After-slice-known3
-        pub w : After-w·own before
+        pub work : After-work·own before
 
-      abbrev pub m37 : (before : After-w) → (given : s43 .gives (m36 (before .before) (before .w .given))) → Typed.Mo T46
-      m37 = λ before given. s43 .next (m36 (before .before) (before .w .given)) given
+      abbrev pub m37 : (before : After-work) → (given : s43 .gives (m36 (before .before) (before .work .given))) → Typed.Mo T46
+      m37 = λ before given. s43 .next (m36 (before .before) (before .work .given)) given
 
-      abbrev pub m38 : (before : After-w) → (given : s43 .gives (m36 (before .before) (before .w .given))) → Typed.Mo T47
+      abbrev pub m38 : (before : After-work) → (given : s43 .gives (m36 (before .before) (before .work .given))) → Typed.Mo T47
       m38 = λ before given. s44 .next (m37 before given)
 
-      module _ (before· : After-w) where
+      module _ (before· : After-work) where
         pub record After-right-arg·own : Type 0 where
-          pub given : s43 .gives (m36 (before· .before) (before· .w .given))
+          pub given : s43 .gives (m36 (before· .before) (before· .work .given))
 
       pub record After-right-arg : Type 0 where
-        pub before : After-w
+        pub before : After-work
         pub right-arg : After-right-arg·own before
 
       abbrev pub m39 : (before : After-right-arg) → (given : s46 .gives (m38 (before .before) (before .right-arg .given))) → Typed.Mo
@@ -2905,22 +2905,22 @@ module _ (claims· : Claims) where
       m48 = λ before given. s57 .next (m47 (before .before) (After-right·gave before)) given
 
       module _ (before· : After-right) where
-        pub record After-f·own : Type 0 where
+        pub record After-words·own : Type 0 where
           pub given : s57 .gives (m47 (before· .before) (After-right·gave before·))
 
-      pub record After-f : Type 0 where
+      pub record After-words : Type 0 where
         pub before : After-right
-        pub f : After-f·own before
+        pub words : After-words·own before
 
-      abbrev pub m49 : (before : After-f) → (given : s58 .gives (m48 (before .before) (before .f .given))) → Typed.Mo T61
-      m49 = λ before given. s58 .next (m48 (before .before) (before .f .given)) given
+      abbrev pub m49 : (before : After-words) → (given : s58 .gives (m48 (before .before) (before .words .given))) → Typed.Mo T61
+      m49 = λ before given. s58 .next (m48 (before .before) (before .words .given)) given
 
-      module _ (before· : After-f) where
+      module _ (before· : After-words) where
         pub record After-slice-known4·own : Type 0 where
-          pub given : s58 .gives (m48 (before· .before) (before· .f .given))
+          pub given : s58 .gives (m48 (before· .before) (before· .words .given))
 
       pub record After-slice-known4 : Type 0 where
-        pub before : After-f
+        pub before : After-words
         pub slice-known4 : After-slice-known4·own before
 
       abbrev pub m50 : (before : After-slice-known4) → (given : s61 .gives (m49 (before .before) (before .slice-known4 .given))) →
@@ -2928,22 +2928,22 @@ module _ (claims· : Claims) where
       m50 = λ before given. s61 .next (m49 (before .before) (before .slice-known4 .given)) given
 
       module _ (before· : After-slice-known4) where
-        pub record After-t2·own : Type 0 where
+        pub record After-terms2·own : Type 0 where
           pub given : s61 .gives (m49 (before· .before) (before· .slice-known4 .given))
 
-      pub record After-t2 : Type 0 where
+      pub record After-terms2 : Type 0 where
         pub before : After-slice-known4
-        pub t2 : After-t2·own before
+        pub terms2 : After-terms2·own before
 
-      abbrev pub m51 : (before : After-t2) → (given : s62 .gives (m50 (before .before) (before .t2 .given))) → Typed.Mo T65
-      m51 = λ before given. s62 .next (m50 (before .before) (before .t2 .given)) given
+      abbrev pub m51 : (before : After-terms2) → (given : s62 .gives (m50 (before .before) (before .terms2 .given))) → Typed.Mo T65
+      m51 = λ before given. s62 .next (m50 (before .before) (before .terms2 .given)) given
 
-      module _ (before· : After-t2) where
+      module _ (before· : After-terms2) where
         pub record After-slice-known5·own : Type 0 where
-          pub given : s62 .gives (m50 (before· .before) (before· .t2 .given))
+          pub given : s62 .gives (m50 (before· .before) (before· .terms2 .given))
 
       pub record After-slice-known5 : Type 0 where
-        pub before : After-t2
+        pub before : After-terms2
         pub slice-known5 : After-slice-known5·own before
 
       abbrev pub m52 : (before : After-slice-known5) → (given : s65 .gives (m51 (before .before) (before .slice-known5 .given))) →
@@ -2963,40 +2963,42 @@ module _ (claims· : Claims) where
       m55 = λ before given. s69 (m54 before given)
 
       module _ (before· : After-slice-known5) where
-        pub record After-w2·own : Type 0 where
+        pub record After-work2·own : Type 0 where
           pub given : s65 .gives (m51 (before· .before) (before· .slice-known5 .given))
 
-      pub record After-w2 : Type 0 where
+      pub record After-work2 : Type 0 where
         pub before : After-slice-known5
-        pub w2 : After-w2·own before
+        pub work2 : After-work2·own before
 
       abbrev pub Need-same-length : Type 0
-      Need-same-length = (c : After-w2) → MutSlice.SameLen (Row.get 1 (T72 .locals) (m55 (c .before) (c .w2 .given))) (dens (c .before
+      Need-same-length = (c : After-work2) → MutSlice.SameLen (Row.get 1 (T72 .locals) (m55 (c .before) (c .work2 .given))) (dens (c
           .before .before .before .before .before .before .before .before .before .before .before .before .before .before .before
-          .before .before .before .before .before .before .κs) (c .before .before .before .before .before .before .before .before
-          .before .before .before .before .before .before .before .before .before .before .before .before .before .before .args) .0)
-
-      abbrev pub Need-same-length-2 : Type 0
-      Need-same-length-2 = (c : After-w2) → MutSlice.SameLen (Row.get 2 (T72 .locals) (m55 (c .before) (c .w2 .given))) (dens (c .before
-          .before .before .before .before .before .before .before .before .before .before .before .before .before .before .before
-          .before .before .before .before .before .before .κs) (c .before .before .before .before .before .before .before .before
-          .before .before .before .before .before .before .before .before .before .before .before .before .before .before .args) .1 .0)
-
-      abbrev pub Need-same-length-3 : Type 0
-      Need-same-length-3 = (c : After-w2) → MutSlice.SameLen (Row.get 3 (T72 .locals) (m55 (c .before) (c .w2 .given))) (dens (c .before
-          .before .before .before .before .before .before .before .before .before .before .before .before .before .before .before
-          .before .before .before .before .before .before .κs) (c .before .before .before .before .before .before .before .before
-          .before .before .before .before .before .before .before .before .before .before .before .before .before .before .args) .1 .1
+          .before .before .before .before .before .before .before .κs) (c .before .before .before .before .before .before .before
+          .before .before .before .before .before .before .before .before .before .before .before .before .before .before .before .args)
           .0)
 
+      abbrev pub Need-same-length-2 : Type 0
+      Need-same-length-2 = (c : After-work2) → MutSlice.SameLen (Row.get 2 (T72 .locals) (m55 (c .before) (c .work2 .given))) (dens (c
+          .before .before .before .before .before .before .before .before .before .before .before .before .before .before .before
+          .before .before .before .before .before .before .before .κs) (c .before .before .before .before .before .before .before
+          .before .before .before .before .before .before .before .before .before .before .before .before .before .before .before .args)
+          .1 .0)
+
+      abbrev pub Need-same-length-3 : Type 0
+      Need-same-length-3 = (c : After-work2) → MutSlice.SameLen (Row.get 3 (T72 .locals) (m55 (c .before) (c .work2 .given))) (dens (c
+          .before .before .before .before .before .before .before .before .before .before .before .before .before .before .before
+          .before .before .before .before .before .before .before .κs) (c .before .before .before .before .before .before .before
+          .before .before .before .before .before .before .before .before .before .before .before .before .before .before .before .args)
+          .1 .1 .0)
+
       abbrev pub Need-returns-2 : Type 0
-      Need-returns-2 = (c : After-w2) → Post· (c .before .before .before .before .before .before .before .before .before .before .before
-          .before .before .before .before .before .before .before .before .before .before .before .κs) (dens (c .before .before .before
+      Need-returns-2 = (c : After-work2) → Post· (c .before .before .before .before .before .before .before .before .before .before
+          .before .before .before .before .before .before .before .before .before .before .before .before .κs) (dens (c .before .before
           .before .before .before .before .before .before .before .before .before .before .before .before .before .before .before
-          .before .before .before .before .κs) (c .before .before .before .before .before .before .before .before .before .before
-          .before .before .before .before .before .before .before .before .before .before .before .before .args)) (Function.resV r (c
-          .before .before .before .before .before .before .before .before .before .before .before .before .before .before .before
-          .before .before .before .before .before .before .before .κs) (m55 (c .before) (c .w2 .given) .0)) (Clauses.atExit
+          .before .before .before .before .before .κs) (c .before .before .before .before .before .before .before .before .before
+          .before .before .before .before .before .before .before .before .before .before .before .before .before .args)) (Function.resV
+          r (c .before .before .before .before .before .before .before .before .before .before .before .before .before .before .before
+          .before .before .before .before .before .before .before .κs) (m55 (c .before) (c .work2 .given) .0)) (Clauses.atExit
           (Kinds.endedOf 5 ps r) (c .before .before .before .before .before .before .before .before .before .before .before .before
           .before .before .before .before .before .before .before .before .before .before .κs) (dens (c .before .before .before .before
           .before .before .before .before .before .before .before .before .before .before .before .before .before .before .before
@@ -3006,7 +3008,7 @@ module _ (claims· : Claims) where
           .before .before .before .before .before .before .κs) 1 ps xs (dens (c .before .before .before .before .before .before .before
           .before .before .before .before .before .before .before .before .before .before .before .before .before .before .before .κs)
           (c .before .before .before .before .before .before .before .before .before .before .before .before .before .before .before
-          .before .before .before .before .before .before .before .args)) (m55 (c .before) (c .w2 .given) .1)))
+          .before .before .before .before .before .before .before .args)) (m55 (c .before) (c .work2 .given) .1)))
 
       module _ (limits-requires : Need-limits-requires) (returns : Need-returns) (assume-requires : Need-assume-requires)
           (right-requires : Need-right-requires) (same-length : Need-same-length) (same-length-2 : Need-same-length-2) (same-length-3 :
@@ -3027,23 +3029,23 @@ module _ (claims· : Claims) where
                         before = record {
                           before = record {
                             before = record
-                                { before = record { before = c .before; right = c .right }; f = record { given = g } };
+                                { before = record { before = c .before; right = c .right }; words = record { given = g } };
                             slice-known4 = record
                                 { given = g' };
                           };
-                          t2 = record { given = g'' };
+                          terms2 = record { given = g'' };
                         };
                         slice-known5 = record { given = g'3 };
-                      } g'4) .ptr) (Row.get 1 (T72 .locals)
-                      (m55 record {
+                      } g'4) .ptr) (Row.get 1 (T72
+                      .locals) (m55 record {
                         before = record {
                           before = record {
                             before = record
-                                { before = record { before = c .before; right = c .right }; f = record { given = g } };
+                                { before = record { before = c .before; right = c .right }; words = record { given = g } };
                             slice-known4 = record
                                 { given = g' };
                           };
-                          t2 = record { given = g'' };
+                          terms2 = record { given = g'' };
                         };
                         slice-known5 = record { given = g'3 };
                       } g'4) .name) (Row.get 1 (T72
@@ -3051,53 +3053,53 @@ module _ (claims· : Claims) where
                         before = record {
                           before = record {
                             before = record
-                                { before = record { before = c .before; right = c .right }; f = record { given = g } };
+                                { before = record { before = c .before; right = c .right }; words = record { given = g } };
                             slice-known4 = record
                                 { given = g' };
                           };
-                          t2 = record { given = g'' };
+                          terms2 = record { given = g'' };
                         };
                         slice-known5 = record { given = g'3 };
-                      } g'4) .now) (dens (c .before .before
-                      .before .before .before .before .before .before .before .before .before .before .before .before .before .before .before .κs)
-                      (c .before .before .before .before .before .before .before .before .before .before .before .before .before .before .before
-                      .before .before .args) .0 .now) (same-length record {
+                      } g'4) .now) (dens (c .before
+                      .before .before .before .before .before .before .before .before .before .before .before .before .before .before .before
+                      .before .κs) (c .before .before .before .before .before .before .before .before .before .before .before .before .before
+                      .before .before .before .before .args) .0 .now) (same-length record {
                         before = record {
                           before = record {
                             before = record {
-                              before = record
-                                  { before = record { before = c .before; right = c .right }; f = record { given = g } };
-                              slice-known4 = record
-                                  { given = g' };
+                              before = record { before = record { before = c .before; right = c .right }; words = record { given = g } };
+                              slice-known4 =
+                                  record { given = g' };
                             };
-                            t2 = record { given = g'' };
+                            terms2 = record { given = g'' };
                           };
                           slice-known5 = record { given = g'3 };
                         };
-                        w2 = record { given = g'4 };
+                        work2 = record
+                            { given = g'4 };
                       }),
                   (
                     MutSlice.fix-len (Row.get 2 (T72 .locals) (m55 record {
                       before = record {
                         before = record {
-                          before = record
-                              { before = record { before = c .before; right = c .right }; f = record { given = g } };
+                          before =
+                              record { before = record { before = c .before; right = c .right }; words = record { given = g } };
                           slice-known4 = record
                               { given = g' };
                         };
-                        t2 = record { given = g'' };
+                        terms2 = record { given = g'' };
                       };
                       slice-known5 = record { given = g'3 };
-                    } g'4) .ptr) (Row.get 2 (T72 .locals)
-                        (m55 record {
+                    } g'4) .ptr) (Row.get 2 (T72
+                        .locals) (m55 record {
                           before = record {
                             before = record {
                               before = record
-                                  { before = record { before = c .before; right = c .right }; f = record { given = g } };
+                                  { before = record { before = c .before; right = c .right }; words = record { given = g } };
                               slice-known4 = record
                                   { given = g' };
                             };
-                            t2 = record { given = g'' };
+                            terms2 = record { given = g'' };
                           };
                           slice-known5 = record { given = g'3 };
                         } g'4) .name) (Row.get 2 (T72
@@ -3105,53 +3107,52 @@ module _ (claims· : Claims) where
                           before = record {
                             before = record {
                               before = record
-                                  { before = record { before = c .before; right = c .right }; f = record { given = g } };
+                                  { before = record { before = c .before; right = c .right }; words = record { given = g } };
                               slice-known4 = record
                                   { given = g' };
                             };
-                            t2 = record { given = g'' };
+                            terms2 = record { given = g'' };
                           };
                           slice-known5 = record { given = g'3 };
-                        } g'4) .now) (dens (c .before .before
-                        .before .before .before .before .before .before .before .before .before .before .before .before .before .before .before .κs)
-                        (c .before .before .before .before .before .before .before .before .before .before .before .before .before .before .before
-                        .before .before .args) .1 .0 .now) (same-length-2 record {
+                        } g'4) .now) (dens (c .before
+                        .before .before .before .before .before .before .before .before .before .before .before .before .before .before .before
+                        .before .κs) (c .before .before .before .before .before .before .before .before .before .before .before .before .before
+                        .before .before .before .before .args) .1 .0 .now) (same-length-2 record {
                           before = record {
                             before = record {
-                              before = record {
-                                before =
-                                    record { before = record { before = c .before; right = c .right }; f = record { given = g } };
-                                slice-known4 = record
-                                    { given = g' };
-                              };
-                              t2 = record { given = g'' };
+                              before =
+                                  record {
+                                    before = record { before = record { before = c .before; right = c .right }; words = record { given = g } };
+                                    slice-known4 = record { given = g' };
+                                  };
+                              terms2 = record { given = g'' };
                             };
                             slice-known5 = record { given = g'3 };
                           };
-                          w2 = record { given = g'4 };
+                          work2 =
+                              record { given = g'4 };
                         }),
                     (
                       MutSlice.fix-len (Row.get 3 (T72 .locals) (m55 record {
                         before = record {
                           before = record {
-                            before = record
-                                { before = record { before = c .before; right = c .right }; f = record { given = g } };
-                            slice-known4 = record
-                                { given = g' };
+                            before = record { before = record { before = c .before; right = c .right }; words = record { given = g } };
+                            slice-known4 =
+                                record { given = g' };
                           };
-                          t2 = record { given = g'' };
+                          terms2 = record { given = g'' };
                         };
                         slice-known5 = record { given = g'3 };
-                      } g'4) .ptr) (Row.get 3 (T72 .locals)
-                          (m55 record {
+                      } g'4) .ptr) (Row.get 3
+                          (T72 .locals) (m55 record {
                             before = record {
                               before = record {
                                 before = record
-                                    { before = record { before = c .before; right = c .right }; f = record { given = g } };
+                                    { before = record { before = c .before; right = c .right }; words = record { given = g } };
                                 slice-known4 = record
                                     { given = g' };
                               };
-                              t2 = record { given = g'' };
+                              terms2 = record { given = g'' };
                             };
                             slice-known5 = record { given = g'3 };
                           } g'4) .name) (Row.get 3 (T72
@@ -3159,30 +3160,30 @@ module _ (claims· : Claims) where
                             before = record {
                               before = record {
                                 before = record
-                                    { before = record { before = c .before; right = c .right }; f = record { given = g } };
+                                    { before = record { before = c .before; right = c .right }; words = record { given = g } };
                                 slice-known4 = record
                                     { given = g' };
                               };
-                              t2 = record { given = g'' };
+                              terms2 = record { given = g'' };
                             };
                             slice-known5 = record { given = g'3 };
-                          } g'4) .now) (dens (c .before .before
-                          .before .before .before .before .before .before .before .before .before .before .before .before .before .before .before .κs)
-                          (c .before .before .before .before .before .before .before .before .before .before .before .before .before .before .before
-                          .before .before .args) .1 .1 .0 .now) (same-length-3 record {
+                          } g'4) .now) (dens (c .before
+                          .before .before .before .before .before .before .before .before .before .before .before .before .before .before .before
+                          .before .κs) (c .before .before .before .before .before .before .before .before .before .before .before .before .before
+                          .before .before .before .before .args) .1 .1 .0 .now) (same-length-3 record {
                             before = record {
                               before = record {
-                                before = record {
-                                  before =
-                                      record { before = record { before = c .before; right = c .right }; f = record { given = g } };
-                                  slice-known4 = record
-                                      { given = g' };
-                                };
-                                t2 = record { given = g'' };
+                                before =
+                                    record {
+                                      before = record { before = record { before = c .before; right = c .right }; words = record { given = g } };
+                                      slice-known4 = record { given = g' };
+                                    };
+                                terms2 = record { given = g'' };
                               };
                               slice-known5 = record { given = g'3 };
                             };
-                            w2 = record { given = g'4 };
+                            work2 =
+                                record { given = g'4 };
                           }),
                       (Path'.refl, (Path'.refl, (tt, (tt, (tt, tt))))),
                     ),
@@ -3190,17 +3191,19 @@ module _ (claims· : Claims) where
                 ),
                 returns-2 record {
                   before = record {
-                    before = record {
-                      before = record {
-                        before = record { before = record { before = c .before; right = c .right }; f = record { given = g } };
-                        slice-known4 =
-                            record { given = g' };
-                      };
-                      t2 = record { given = g'' };
-                    };
+                    before
+                        = record {
+                          before = record {
+                            before = record
+                                { before = record { before = c .before; right = c .right }; words = record { given = g } };
+                            slice-known4 = record
+                                { given = g' };
+                          };
+                          terms2 = record { given = g'' };
+                        };
                     slice-known5 = record { given = g'3 };
                   };
-                  w2 = record
+                  work2 = record
                       { given = g'4 };
                 },
               ),
@@ -3228,35 +3231,37 @@ module _ (claims· : Claims) where
                           before = record {
                             before = record {
                               before = record
-                                  { before = record { before = c .before; assume = c .assume }; t = record { given = g } };
+                                  { before = record { before = c .before; assume = c .assume }; terms = record { given = g } };
                               slice-known3 = record
                                   { given = g' };
                             };
-                            w = record { given = g'' };
+                            work = record { given = g'' };
                           };
                           right-arg = record { given = g'3 };
                         };
-                        right-arg2 = record { given = g'4 };
+                        right-arg2 = record
+                            { given = g'4 };
                       };
                       right-arg3 = record { given = g'5 };
                     },
                     λ g'6. lay6 record {
                       before = record {
                         before = record {
-                          before = record {
-                            before =
-                                record {
+                          before =
+                              record {
+                                before = record {
                                   before = record {
                                     before = record
-                                        { before = record { before = c .before; assume = c .assume }; t = record { given = g } };
+                                        { before = record { before = c .before; assume = c .assume }; terms = record { given = g } };
                                     slice-known3 = record
                                         { given = g' };
                                   };
-                                  w = record { given = g'' };
+                                  work = record { given = g'' };
                                 };
-                            right-arg = record { given = g'3 };
-                          };
-                          right-arg2 = record { given = g'4 };
+                                right-arg = record { given = g'3 };
+                              };
+                          right-arg2 = record
+                              { given = g'4 };
                         };
                         right-arg3 = record { given = g'5 };
                       };
@@ -3285,17 +3290,17 @@ module _ (claims· : Claims) where
                           before = record {
                             before = record {
                               before = record
-                                  { before = record { before = c .before; assume = c .assume }; t = record { given = g } };
+                                  { before = record { before = c .before; assume = c .assume }; terms = record { given = g } };
                               slice-known3 = record
                                   { given = g' };
                             };
-                            w = record { given = g'' };
+                            work = record { given = g'' };
                           };
                           right-arg = record { given = g'3 };
                         };
-                        right-arg2 = record { given = g'4 };
-                      }
-                          g'5) g'6;
+                        right-arg2 = record
+                            { given = g'4 };
+                      } g'5) g'6;
                     },
                   ),
                 ),
@@ -3413,15 +3418,16 @@ module _ (claims· : Claims) where
           asked = λ a good pre bs. laid record {
             κs = κs;
             args = record {
-              f = a .0;
-              t = a .1 .0;
-              w = a .1 .1 .0;
-              names = a .1 .1 .1 .0;
+              words = a .0;
+              terms = a .1 .0;
+              work = a .1 .1 .0;
+              names = a .1
+                  .1 .1 .0;
               assumed = a .1 .1 .1 .1 .0;
               count = a .1 .1 .1 .1 .1 .0;
               goal = a .1 .1 .1 .1 .1 .1 .0;
-              steps = a .1 .1 .1 .1 .1 .1 .1
-                  .0;
+              steps = a .1 .1 .1 .1 .1
+                  .1 .1 .0;
             };
             good = good;
             fits = record {
@@ -3434,8 +3440,8 @@ module _ (claims· : Claims) where
           }
 
         module _ {M : Type 1} (𝓤 : URA.URA M) (H : Wp.Heap 𝓤) (A : Atoms.Atoms 𝓤) (W : Kit.Given 𝓤 H A) (𝓣 : Wp.Tables 𝓤 H) (known0 :
-            Plain.Known 𝓤 H A W 𝓣 0 ps·0 r·0 (claims· .0) (claims· .1) "claim::limits") (known1 : Plain.Known 𝓤 H A W 𝓣 3 ps·1 r·1
-            (claims· .2) (claims· .3) "claim::assume") (known2 : Plain.Known 𝓤 H A W 𝓣 4 ps·2 r·2 (claims· .4) (claims· .5)
+            Plain.Known 𝓤 H A W 𝓣 0 ps·0 r·0 (claims· .0) (claims· .1) "call::limits") (known1 : Plain.Known 𝓤 H A W 𝓣 3 ps·1 r·1
+            (claims· .2) (claims· .3) "call::assume") (known2 : Plain.Known 𝓤 H A W 𝓣 4 ps·2 r·2 (claims· .4) (claims· .5)
             "prove::right") where
           pub spec : Statement.Triple 𝓤 (Wp.WpFn 𝓤 H (𝓣 .C) (𝓣 .Λ) (Function.fnOf 5 ps r xs m hs body)) (Function.plainOf 𝓤 H A 5 ps r
               Pre· Post·)

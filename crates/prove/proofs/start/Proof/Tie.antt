@@ -1,10 +1,10 @@
 -- Made by tools/records.py from the sources; antt refuses it where it is stale. Assumes nothing.
-use Rattle.claim.proofs.Generated.assume.Reads
-use Rattle.claim.proofs.assume.Met
-use Rattle.claim.proofs.assume.Symbol
-use Rattle.claim.proofs.limits.Met as Met'
-use Rattle.claim.proofs.limits.Reads as Reads'
-use Rattle.claim.proofs.limits.Symbol as Symbol'
+use Rattle.call.proofs.Generated.assume.Reads
+use Rattle.call.proofs.assume.Met
+use Rattle.call.proofs.assume.Symbol
+use Rattle.call.proofs.limits.Met as Met'
+use Rattle.call.proofs.limits.Reads as Reads'
+use Rattle.call.proofs.limits.Symbol as Symbol'
 use Rattle.prove.proofs.Generated.right.Reads as Reads''
 use Rattle.prove.proofs.Generated.start.Kinds
 use Rattle.prove.proofs.Generated.start.Lts
@@ -63,15 +63,17 @@ abbrev pub After-assume : Type 0
 After-assume = Lts.After-assume (Reads'.Asked, Reads'.Learnt, Reads.Asked, Reads.Learnt, Reads''.Asked, Reads''.Learnt) Reads'3.Pre
     Reads'3.Post
 
-abbrev pub After-t : Type 0
-After-t = Lts.After-t (Reads'.Asked, Reads'.Learnt, Reads.Asked, Reads.Learnt, Reads''.Asked, Reads''.Learnt) Reads'3.Pre Reads'3.Post
+abbrev pub After-terms : Type 0
+After-terms = Lts.After-terms (Reads'.Asked, Reads'.Learnt, Reads.Asked, Reads.Learnt, Reads''.Asked, Reads''.Learnt) Reads'3.Pre
+    Reads'3.Post
 
 abbrev pub After-slice-known3 : Type 0
 After-slice-known3 = Lts.After-slice-known3 (Reads'.Asked, Reads'.Learnt, Reads.Asked, Reads.Learnt, Reads''.Asked, Reads''.Learnt)
     Reads'3.Pre Reads'3.Post
 
-abbrev pub After-w : Type 0
-After-w = Lts.After-w (Reads'.Asked, Reads'.Learnt, Reads.Asked, Reads.Learnt, Reads''.Asked, Reads''.Learnt) Reads'3.Pre Reads'3.Post
+abbrev pub After-work : Type 0
+After-work = Lts.After-work (Reads'.Asked, Reads'.Learnt, Reads.Asked, Reads.Learnt, Reads''.Asked, Reads''.Learnt) Reads'3.Pre
+    Reads'3.Post
 
 abbrev pub After-right-arg : Type 0
 After-right-arg = Lts.After-right-arg (Reads'.Asked, Reads'.Learnt, Reads.Asked, Reads.Learnt, Reads''.Asked, Reads''.Learnt)
@@ -89,22 +91,25 @@ abbrev pub After-right : Type 0
 After-right = Lts.After-right (Reads'.Asked, Reads'.Learnt, Reads.Asked, Reads.Learnt, Reads''.Asked, Reads''.Learnt) Reads'3.Pre
     Reads'3.Post
 
-abbrev pub After-f : Type 0
-After-f = Lts.After-f (Reads'.Asked, Reads'.Learnt, Reads.Asked, Reads.Learnt, Reads''.Asked, Reads''.Learnt) Reads'3.Pre Reads'3.Post
+abbrev pub After-words : Type 0
+After-words = Lts.After-words (Reads'.Asked, Reads'.Learnt, Reads.Asked, Reads.Learnt, Reads''.Asked, Reads''.Learnt) Reads'3.Pre
+    Reads'3.Post
 
 abbrev pub After-slice-known4 : Type 0
 After-slice-known4 = Lts.After-slice-known4 (Reads'.Asked, Reads'.Learnt, Reads.Asked, Reads.Learnt, Reads''.Asked, Reads''.Learnt)
     Reads'3.Pre Reads'3.Post
 
-abbrev pub After-t2 : Type 0
-After-t2 = Lts.After-t2 (Reads'.Asked, Reads'.Learnt, Reads.Asked, Reads.Learnt, Reads''.Asked, Reads''.Learnt) Reads'3.Pre Reads'3.Post
+abbrev pub After-terms2 : Type 0
+After-terms2 = Lts.After-terms2 (Reads'.Asked, Reads'.Learnt, Reads.Asked, Reads.Learnt, Reads''.Asked, Reads''.Learnt) Reads'3.Pre
+    Reads'3.Post
 
 abbrev pub After-slice-known5 : Type 0
 After-slice-known5 = Lts.After-slice-known5 (Reads'.Asked, Reads'.Learnt, Reads.Asked, Reads.Learnt, Reads''.Asked, Reads''.Learnt)
     Reads'3.Pre Reads'3.Post
 
-abbrev pub After-w2 : Type 0
-After-w2 = Lts.After-w2 (Reads'.Asked, Reads'.Learnt, Reads.Asked, Reads.Learnt, Reads''.Asked, Reads''.Learnt) Reads'3.Pre Reads'3.Post
+abbrev pub After-work2 : Type 0
+After-work2 = Lts.After-work2 (Reads'.Asked, Reads'.Learnt, Reads.Asked, Reads.Learnt, Reads''.Asked, Reads''.Learnt) Reads'3.Pre
+    Reads'3.Post
 
 abbrev pub Need-limits-requires : Type 0
 Need-limits-requires = Lts.Need-limits-requires (Reads'.Asked, Reads'.Learnt, Reads.Asked, Reads.Learnt, Reads''.Asked, Reads''.Learnt)
@@ -147,7 +152,6 @@ module _ {M : Type 1} where
       (Reads'.Asked, Reads'.Learnt, Reads.Asked, Reads.Learnt, Reads''.Asked, Reads''.Learnt) Reads'3.Pre Reads'3.Post answer answer'
       answer'' answer'3 answer'4 answer'5 answer'6 answer'7
 
-  -- antt refused `close` as it was built: the module's report says why
   pub close : Lts.Closed (Reads'.Asked, Reads'.Learnt, Reads.Asked, Reads.Learnt, Reads''.Asked, Reads''.Learnt) Reads'3.Pre
       Reads'3.Post M → Statement.statement M
   unfolding Code.routine Running.tablesOf
@@ -156,6 +160,6 @@ module _ {M : Type 1} where
       (Code.unfolded 𝓤 H 𝓜 𝓡) (λ κs a g. tt) (λ κs. Reads'3.owns κs record { M = M; 𝓤 = 𝓤; H = H; 𝓜 = 𝓜; 𝓖 = 𝓖; 𝓡 = 𝓡 }) (Reads'3.passes
       record { M = M; 𝓤 = 𝓤; H = H; 𝓜 = 𝓜; 𝓖 = 𝓖; 𝓡 = 𝓡 }) λ g. closed 𝓤 H (𝓖 .A) (Running.givenOf 𝓤 H 𝓜 𝓖) (Run.Over 𝓤 H 𝓜 𝓖 𝓡
       Code.env) (Reads'.known record { M = M; 𝓤 = 𝓤; H = H; 𝓜 = 𝓜; 𝓖 = 𝓖; 𝓡 = 𝓡 } Code.env Symbol'.name Symbol'.routine
-      Code.calls-claim·limits (Met'.met 𝓤 H 𝓜 𝓖 𝓡)) (Reads.known record { M = M; 𝓤 = 𝓤; H = H; 𝓜 = 𝓜; 𝓖 = 𝓖; 𝓡 = 𝓡 } Code.env
-      Symbol.name Symbol.routine Code.calls-claim·assume (Met.met 𝓤 H 𝓜 𝓖 𝓡)) (Reads''.known record
-      { M = M; 𝓤 = 𝓤; H = H; 𝓜 = 𝓜; 𝓖 = 𝓖; 𝓡 = 𝓡 } Code.env Symbol''.name Symbol''.routine Code.calls-prove·right (Met''.met 𝓤 H 𝓜 𝓖 𝓡))
+      Code.calls-call·limits (Met'.met 𝓤 H 𝓜 𝓖 𝓡)) (Reads.known record { M = M; 𝓤 = 𝓤; H = H; 𝓜 = 𝓜; 𝓖 = 𝓖; 𝓡 = 𝓡 } Code.env Symbol.name
+      Symbol.routine Code.calls-call·assume (Met.met 𝓤 H 𝓜 𝓖 𝓡)) (Reads''.known record { M = M; 𝓤 = 𝓤; H = H; 𝓜 = 𝓜; 𝓖 = 𝓖; 𝓡 = 𝓡 }
+      Code.env Symbol''.name Symbol''.routine Code.calls-prove·right (Met''.met 𝓤 H 𝓜 𝓖 𝓡))

@@ -1186,12 +1186,12 @@ module _ (claims· : Claims) where
 
       module _ (κs : Lifetimes.Lfts 2) where
         pub record Args : Type 0 where
-          pub f : Kinds.Den {n = 2} κs (ShrSlice.pShrS (Referent.rtF (Referent.fInt Syntax.w32)) 0 tt)
-          pub w : Kinds.Den {n = 2} κs (MutSlice.pMutS Element.row 1 tt)
+          pub words : Kinds.Den {n = 2} κs (ShrSlice.pShrS (Referent.rtF (Referent.fInt Syntax.w32)) 0 tt)
+          pub work : Kinds.Den {n = 2} κs (MutSlice.pMutS Element.row 1 tt)
           pub i : Kinds.Den {n = 2} κs (Num.pNum Syntax.w64)
 
         abbrev pub dens : (a : Args) → Kinds.Dens κs ps
-        dens = λ a. (a .f, (a .w, (a .i, tt)))
+        dens = λ a. (a .words, (a .work, (a .i, tt)))
 
         module _ (args· : Args) where
           pub record Ranges : Type 0 where
@@ -1410,25 +1410,25 @@ module _ (claims· : Claims) where
       m21 = λ before given. s22 .next (m20 (before .before) (After-put·gave before)) given
 
       module _ (before· : After-put) where
-        pub record After-w·own : Type 0 where
+        pub record After-work·own : Type 0 where
           pub given : s22 .gives (m20 (before· .before) (After-put·gave before·))
 
-      pub record After-w : Type 0 where
+      pub record After-work : Type 0 where
         pub before : After-put
-        pub w : After-w·own before
+        pub work : After-work·own before
 
-      abbrev pub m22 : (before : After-w) → (given : s25 .gives (m21 (before .before) (before .w .given))) → Typed.Mo T29
-      m22 = λ before given. s25 .next (m21 (before .before) (before .w .given)) given
+      abbrev pub m22 : (before : After-work) → (given : s25 .gives (m21 (before .before) (before .work .given))) → Typed.Mo T29
+      m22 = λ before given. s25 .next (m21 (before .before) (before .work .given)) given
 
-      abbrev pub m23 : (before : After-w) → (given : s25 .gives (m21 (before .before) (before .w .given))) → Typed.Mo T30
+      abbrev pub m23 : (before : After-work) → (given : s25 .gives (m21 (before .before) (before .work .given))) → Typed.Mo T30
       m23 = λ before given. s26 .next (m22 before given)
 
-      module _ (before· : After-w) where
+      module _ (before· : After-work) where
         pub record After-put-arg2·own : Type 0 where
-          pub given : s25 .gives (m21 (before· .before) (before· .w .given))
+          pub given : s25 .gives (m21 (before· .before) (before· .work .given))
 
       pub record After-put-arg2 : Type 0 where
-        pub before : After-w
+        pub before : After-work
         pub put-arg2 : After-put-arg2·own before
 
       abbrev pub Need-right-requires : Type 0
@@ -1496,30 +1496,30 @@ module _ (claims· : Claims) where
       m31 = λ before given. s36 (m30 before given)
 
       module _ (before· : After-put2) where
-        pub record After-w2·own : Type 0 where
+        pub record After-work2·own : Type 0 where
           pub given : s32 .gives (m27 (before· .before) (After-put2·gave before·))
 
-      pub record After-w2 : Type 0 where
+      pub record After-work2 : Type 0 where
         pub before : After-put2
-        pub w2 : After-w2·own before
+        pub work2 : After-work2·own before
 
       abbrev pub Need-same-length : Type 0
-      Need-same-length = (c : After-w2) → MutSlice.SameLen (Row.get 2 (T40 .locals) (m31 (c .before) (c .w2 .given))) (dens (c .before
-          .before .before .before .before .before .before .before .before .before .before .before .κs) (c .before .before .before
-          .before .before .before .before .before .before .before .before .before .args) .1 .0)
+      Need-same-length = (c : After-work2) → MutSlice.SameLen (Row.get 2 (T40 .locals) (m31 (c .before) (c .work2 .given))) (dens (c
+          .before .before .before .before .before .before .before .before .before .before .before .before .κs) (c .before .before
+          .before .before .before .before .before .before .before .before .before .before .args) .1 .0)
 
       abbrev pub Need-returns-3 : Type 0
-      Need-returns-3 = (c : After-w2) → Post· (c .before .before .before .before .before .before .before .before .before .before .before
-          .before .κs) (dens (c .before .before .before .before .before .before .before .before .before .before .before .before .κs) (c
-          .before .before .before .before .before .before .before .before .before .before .before .before .args)) (Function.resV r (c
-          .before .before .before .before .before .before .before .before .before .before .before .before .κs) (m31 (c .before) (c .w2
-          .given) .0)) (Clauses.atExit (Kinds.endedOf 2 ps r) (c .before .before .before .before .before .before .before .before .before
-          .before .before .before .κs) (dens (c .before .before .before .before .before .before .before .before .before .before .before
-          .before .κs) (c .before .before .before .before .before .before .before .before .before .before .before .before .args))
-          (Enter.lastsP (c .before .before .before .before .before .before .before .before .before .before .before .before .κs) 1 ps xs
-          (dens (c .before .before .before .before .before .before .before .before .before .before .before .before .κs) (c .before
-          .before .before .before .before .before .before .before .before .before .before .before .args)) (m31 (c .before) (c .w2
-          .given) .1)))
+      Need-returns-3 = (c : After-work2) → Post· (c .before .before .before .before .before .before .before .before .before .before
+          .before .before .κs) (dens (c .before .before .before .before .before .before .before .before .before .before .before .before
+          .κs) (c .before .before .before .before .before .before .before .before .before .before .before .before .args)) (Function.resV
+          r (c .before .before .before .before .before .before .before .before .before .before .before .before .κs) (m31 (c .before) (c
+          .work2 .given) .0)) (Clauses.atExit (Kinds.endedOf 2 ps r) (c .before .before .before .before .before .before .before .before
+          .before .before .before .before .κs) (dens (c .before .before .before .before .before .before .before .before .before .before
+          .before .before .κs) (c .before .before .before .before .before .before .before .before .before .before .before .before
+          .args)) (Enter.lastsP (c .before .before .before .before .before .before .before .before .before .before .before .before .κs)
+          1 ps xs (dens (c .before .before .before .before .before .before .before .before .before .before .before .before .κs) (c
+          .before .before .before .before .before .before .before .before .before .before .before .before .args)) (m31 (c .before) (c
+          .work2 .given) .1)))
 
       module _ (kind-requires : Need-kind-requires) (returns : Need-returns) (returns-2 : Need-returns-2) (left-requires :
           Need-left-requires) (put-requires : Need-put-requires) (right-requires : Need-right-requires) (put-requires-2 :
@@ -1538,12 +1538,12 @@ module _ (claims· : Claims) where
                     g) .name) (Row.get 2 (T40 .locals) (m31 record { before = c .before; put2 = c .put2 } g) .now) (dens (c .before .before
                     .before .before .before .before .before .before .before .before .before .κs) (c .before .before .before .before .before
                     .before .before .before .before .before .before .args) .1 .0 .now) (same-length record
-                    { before = record { before = c .before; put2 = c .put2 }; w2 = record { given = g } }),
+                    { before = record { before = c .before; put2 = c .put2 }; work2 = record { given = g } }),
                 (tt, tt),
               ),
             ),
             returns-3 record
-                { before = record { before = c .before; put2 = c .put2 }; w2 = record { given = g } },
+                { before = record { before = c .before; put2 = c .put2 }; work2 = record { given = g } },
           ),
         )
 
@@ -1572,19 +1572,19 @@ module _ (claims· : Claims) where
             (
               right-requires record {
                 before = record
-                    { before = record { before = c .before; put = c .put }; w = record { given = g } };
+                    { before = record { before = c .before; put = c .put }; work = record { given = g } };
                 put-arg2 = record { given = g' };
               },
               λ
                   g''. lay10 record {
                     before = record {
                       before = record
-                          { before = record { before = c .before; put = c .put }; w = record { given = g } };
+                          { before = record { before = c .before; put = c .put }; work = record { given = g } };
                       put-arg2 = record { given = g' };
                     };
                     right = Called.called ps·3 r·3 (claims· .7) T30
                         (record { pos = 1; ty = Syntax.tyRef (Syntax.named 0) Syntax.imm y4; ref = λ x. x }, (Num.vAt 3 λ x. x, tt)) (m23 record
-                        { before = record { before = c .before; put = c .put }; w = record { given = g } } g') g'';
+                        { before = record { before = c .before; put = c .put }; work = record { given = g } } g') g'';
                   },
             ),
           ),
@@ -1688,10 +1688,9 @@ module _ (claims· : Claims) where
               2 ps r xs m κs qs a (Post· κs a)) (Function.init 2 ps r xs m κs qs a)
           asked = λ a good pre bs. laid record {
             κs = κs;
-            args = record { f = a .0; w = a .1 .0; i = a .1 .1 .0 };
+            args = record { words = a .0; work = a .1 .0; i = a .1 .1 .0 };
             good = good;
-            fits =
-                record { i = record { fits = good .1 .1 .0 .1 } };
+            fits = record { i = record { fits = good .1 .1 .0 .1 } };
             pre = pre;
           }
 

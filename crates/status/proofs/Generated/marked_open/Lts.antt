@@ -1312,13 +1312,13 @@ module _ (claims· : Claims) where
 
       module _ (κs : Lifetimes.Lfts 2) where
         pub record Args : Type 0 where
-          pub f : Kinds.Den {n = 2} κs (ShrSlice.pShrS (Referent.rtF (Referent.fInt Syntax.w32)) 0 tt)
-          pub w : Kinds.Den {n = 2} κs (MutSlice.pMutS Element.row 1 tt)
+          pub words : Kinds.Den {n = 2} κs (ShrSlice.pShrS (Referent.rtF (Referent.fInt Syntax.w32)) 0 tt)
+          pub work : Kinds.Den {n = 2} κs (MutSlice.pMutS Element.row 1 tt)
           pub count : Kinds.Den {n = 2} κs (Num.pNum Syntax.w64)
           pub from : Kinds.Den {n = 2} κs (Num.pNum Syntax.w64)
 
         abbrev pub dens : (a : Args) → Kinds.Dens κs ps
-        dens = λ a. (a .f, (a .w, (a .count, (a .from, tt))))
+        dens = λ a. (a .words, (a .work, (a .count, (a .from, tt))))
 
         module _ (args· : Args) where
           pub record Ranges : Type 0 where
@@ -1370,40 +1370,40 @@ module _ (claims· : Claims) where
           (m2 (c .before) (c .shared-slice-known .given))) (Row.get 2 (T3 .locals) (m2 (c .before) (c .shared-slice-known .given)) .now)
           (Row.get 5 (T3 .locals) (m2 (c .before) (c .shared-slice-known .given)))
 
-      abbrev pub m3 : (before : After-shared-slice-known) → (w : List.List (Element.row .Denot)) → (i : Rows.sc-here (Row.sInt
+      abbrev pub m3 : (before : After-shared-slice-known) → (work : List.List (Element.row .Denot)) → (i : Rows.sc-here (Row.sInt
           Syntax.w64) .Mod) → Typed.Mo T3
-      m3 = λ before w i. Row.set 5 y26 i (Row.setRow 2 y10 (T3 .locals)) (Row.set 2 y10 record {
+      m3 = λ before work i. Row.set 5 y26 i (Row.setRow 2 y10 (T3 .locals)) (Row.set 2 y10 record {
         ptr = Row.get 2 (T3 .locals) (m2
             (before .before) (before .shared-slice-known .given)) .ptr;
         name = Row.get 2 (T3 .locals) (m2 (before .before) (before
             .shared-slice-known .given)) .name;
-        now = w;
+        now = work;
       } (T3 .locals) (m2 (before .before) (before .shared-slice-known .given)))
 
-      abbrev W3 : (before : After-shared-slice-known) → (w : List.List (Element.row .Denot)) → (i : Rows.sc-here (Row.sInt Syntax.w64)
-          .Mod) → Typed.Want O3
-      W3 = λ before w i. Typed.inLoop T3 O2 (Typed.Round T3 O2 put0 (λ u vs. Inv·0 (Row.get 1 (T3 .locals) u .now) (Row.get 2 (T3
+      abbrev W3 : (before : After-shared-slice-known) → (work : List.List (Element.row .Denot)) → (i : Rows.sc-here (Row.sInt
+          Syntax.w64) .Mod) → Typed.Want O3
+      W3 = λ before work i. Typed.inLoop T3 O2 (Typed.Round T3 O2 put0 (λ u vs. Inv·0 (Row.get 1 (T3 .locals) u .now) (Row.get 2 (T3
           .locals) u .now) (Row.get 3 (T3 .locals) u) (Row.get 4 (T3 .locals) u) (Row.get 5 (T3 .locals) u) (vs .0) (vs .1)) (λ u vs.
           μ·0 (Row.get 1 (T3 .locals) u .now) (Row.get 2 (T3 .locals) u .now) (Row.get 3 (T3 .locals) u) (Row.get 4 (T3 .locals) u)
-          (Row.get 5 (T3 .locals) u) (vs .0) (vs .1)) at38 (m2 (before .before) (before .shared-slice-known .given)) (w, i)) (W2 (before
-          .before) (before .shared-slice-known .given))
+          (Row.get 5 (T3 .locals) u) (vs .0) (vs .1)) at38 (m2 (before .before) (before .shared-slice-known .given)) (work, i)) (W2
+          (before .before) (before .shared-slice-known .given))
 
-      abbrev pub m4 : (before : After-shared-slice-known) → (w : List.List (Element.row .Denot)) → (i : Rows.sc-here (Row.sInt
+      abbrev pub m4 : (before : After-shared-slice-known) → (work : List.List (Element.row .Denot)) → (i : Rows.sc-here (Row.sInt
           Syntax.w64) .Mod) → Typed.Mo T5
-      m4 = λ before w i. s2 .next (m3 before w i)
+      m4 = λ before work i. s2 .next (m3 before work i)
 
-      abbrev W4 : (before : After-shared-slice-known) → (w : List.List (Element.row .Denot)) → (i : Rows.sc-here (Row.sInt Syntax.w64)
-          .Mod) → Typed.Want O4
-      W4 = λ before w i. Typed.wantNext T6 O3 (at36 (W3 before w i)) (W3 before w i)
+      abbrev W4 : (before : After-shared-slice-known) → (work : List.List (Element.row .Denot)) → (i : Rows.sc-here (Row.sInt
+          Syntax.w64) .Mod) → Typed.Want O4
+      W4 = λ before work i. Typed.wantNext T6 O3 (at36 (W3 before work i)) (W3 before work i)
 
       module _ (before· : After-shared-slice-known) where
         pub record At-loop·own : Type 0 where
-          pub w : List.List (Element.row .Denot)
+          pub work : List.List (Element.row .Denot)
           pub i : Rows.sc-here (Row.sInt Syntax.w64) .Mod
           pub inv : Inv·0 (Row.get 1 (T3 .locals) (m2 (before· .before) (before· .shared-slice-known .given)) .now) (Row.get 2 (T3
               .locals) (m2 (before· .before) (before· .shared-slice-known .given)) .now) (Row.get 3 (T3 .locals) (m2 (before· .before)
               (before· .shared-slice-known .given))) (Row.get 4 (T3 .locals) (m2 (before· .before) (before· .shared-slice-known
-              .given))) (Row.get 5 (T3 .locals) (m2 (before· .before) (before· .shared-slice-known .given))) w i
+              .given))) (Row.get 5 (T3 .locals) (m2 (before· .before) (before· .shared-slice-known .given))) work i
 
       pub record At-loop : Type 0 where
         pub before : After-shared-slice-known
@@ -1411,25 +1411,25 @@ module _ (claims· : Claims) where
 
       module _ (before· : At-loop) where
         pub record In-loop·own : Type 0 where
-          pub taken : Nat._<_ 0 (Row.get 5 (T3 .locals) (m3 (before· .before) (before· .loop .w) (before· .loop .i)))
+          pub taken : Nat._<_ 0 (Row.get 5 (T3 .locals) (m3 (before· .before) (before· .loop .work) (before· .loop .i)))
 
       pub record In-loop : Type 0 where
         pub before : At-loop
         pub loop-test : In-loop·own before
 
       abbrev pub m5 : (before : At-loop) → Typed.Mo T7
-      m5 = λ before. s3 (m4 (before .before) (before .loop .w) (before .loop .i))
+      m5 = λ before. s3 (m4 (before .before) (before .loop .work) (before .loop .i))
 
       module _ (before· : At-loop) where
         pub record After-loop·own : Type 0 where
-          pub left : Nat._≤_ (Row.get 5 (T3 .locals) (m3 (before· .before) (before· .loop .w) (before· .loop .i))) 0
+          pub left : Nat._≤_ (Row.get 5 (T3 .locals) (m3 (before· .before) (before· .loop .work) (before· .loop .i))) 0
 
       pub record After-loop : Type 0 where
         pub before : At-loop
         pub loop-test : After-loop·own before
 
       abbrev pub m6 : (before : At-loop) → Typed.Mo T8
-      m6 = λ before. s4 (m4 (before .before) (before .loop .w) (before .loop .i))
+      m6 = λ before. s4 (m4 (before .before) (before .loop .work) (before .loop .i))
 
       abbrev pub Need-sub-i : Type 0
       Need-sub-i = (c : In-loop) → s5 .asks (m5 (c .before))
@@ -1548,8 +1548,8 @@ module _ (claims· : Claims) where
 
       abbrev W5 : (before : After-word) → (given : s18 .gives (m16 (before .before) (After-word·gave before))) → Typed.Want O5
       W5 = λ before given. Typed.wantNext T23 O3 (at18 (W3 (before .before .before .before .before .before .before) (before .before
-          .before .before .before .before .loop .w) (before .before .before .before .before .before .loop .i))) (W3 (before .before
-          .before .before .before .before .before) (before .before .before .before .before .before .loop .w) (before .before .before
+          .before .before .before .before .loop .work) (before .before .before .before .before .before .loop .i))) (W3 (before .before
+          .before .before .before .before .before) (before .before .before .before .before .before .loop .work) (before .before .before
           .before .before .before .loop .i))
 
       abbrev pub m18 : (before : After-word) → (given : s18 .gives (m16 (before .before) (After-word·gave before))) → Typed.Mo T24
@@ -1664,15 +1664,15 @@ module _ (claims· : Claims) where
       m29 = λ before given. s32 .next (m28 (before .before) (After-mark-parts·gave before)) given
 
       module _ (before· : After-mark-parts) where
-        pub record After-w·own : Type 0 where
+        pub record After-work·own : Type 0 where
           pub given : s32 .gives (m28 (before· .before) (After-mark-parts·gave before·))
 
-      pub record After-w : Type 0 where
+      pub record After-work : Type 0 where
         pub before : After-mark-parts
-        pub w : After-w·own before
+        pub work : After-work·own before
 
       abbrev pub Need-loop-less : Type 0
-      Need-loop-less = (c : After-w) → Nat._<_ (μ·0 (Row.get 1 (T3 .locals) (m2 (c .before .before .before .before .before .before
+      Need-loop-less = (c : After-work) → Nat._<_ (μ·0 (Row.get 1 (T3 .locals) (m2 (c .before .before .before .before .before .before
           .before .before .before .before .before .before) (c .before .before .before .before .before .before .before .before .before
           .before .before .shared-slice-known .given)) .now) (Row.get 2 (T3 .locals) (m2 (c .before .before .before .before .before
           .before .before .before .before .before .before .before) (c .before .before .before .before .before .before .before .before
@@ -1682,23 +1682,23 @@ module _ (claims· : Claims) where
           .before .before .before .before .before .before .before .before) (c .before .before .before .before .before .before .before
           .before .before .before .before .shared-slice-known .given))) (Row.get 5 (T3 .locals) (m2 (c .before .before .before .before
           .before .before .before .before .before .before .before .before) (c .before .before .before .before .before .before .before
-          .before .before .before .before .shared-slice-known .given))) (Row.get 2 (T3 .locals) (m29 (c .before) (c .w .given)) .now)
-          (Row.get 5 (T3 .locals) (m29 (c .before) (c .w .given)))) (μ·0 (Row.get 1 (T3 .locals) (m2 (c .before .before .before .before
-          .before .before .before .before .before .before .before .before) (c .before .before .before .before .before .before .before
-          .before .before .before .before .shared-slice-known .given)) .now) (Row.get 2 (T3 .locals) (m2 (c .before .before .before
+          .before .before .before .before .shared-slice-known .given))) (Row.get 2 (T3 .locals) (m29 (c .before) (c .work .given)) .now)
+          (Row.get 5 (T3 .locals) (m29 (c .before) (c .work .given)))) (μ·0 (Row.get 1 (T3 .locals) (m2 (c .before .before .before
           .before .before .before .before .before .before .before .before .before) (c .before .before .before .before .before .before
-          .before .before .before .before .before .shared-slice-known .given)) .now) (Row.get 3 (T3 .locals) (m2 (c .before .before
+          .before .before .before .before .before .shared-slice-known .given)) .now) (Row.get 2 (T3 .locals) (m2 (c .before .before
           .before .before .before .before .before .before .before .before .before .before) (c .before .before .before .before .before
-          .before .before .before .before .before .before .shared-slice-known .given))) (Row.get 4 (T3 .locals) (m2 (c .before .before
-          .before .before .before .before .before .before .before .before .before .before) (c .before .before .before .before .before
-          .before .before .before .before .before .before .shared-slice-known .given))) (Row.get 5 (T3 .locals) (m2 (c .before .before
-          .before .before .before .before .before .before .before .before .before .before) (c .before .before .before .before .before
-          .before .before .before .before .before .before .shared-slice-known .given))) (c .before .before .before .before .before
-          .before .before .before .before .before .loop .w) (c .before .before .before .before .before .before .before .before .before
-          .before .loop .i))
+          .before .before .before .before .before .before .shared-slice-known .given)) .now) (Row.get 3 (T3 .locals) (m2 (c .before
+          .before .before .before .before .before .before .before .before .before .before .before) (c .before .before .before .before
+          .before .before .before .before .before .before .before .shared-slice-known .given))) (Row.get 4 (T3 .locals) (m2 (c .before
+          .before .before .before .before .before .before .before .before .before .before .before) (c .before .before .before .before
+          .before .before .before .before .before .before .before .shared-slice-known .given))) (Row.get 5 (T3 .locals) (m2 (c .before
+          .before .before .before .before .before .before .before .before .before .before .before) (c .before .before .before .before
+          .before .before .before .before .before .before .before .shared-slice-known .given))) (c .before .before .before .before
+          .before .before .before .before .before .before .loop .work) (c .before .before .before .before .before .before .before
+          .before .before .before .loop .i))
 
       abbrev pub Need-loop-again : Type 0
-      Need-loop-again = (c : After-w) → Inv·0 (Row.get 1 (T3 .locals) (m2 (c .before .before .before .before .before .before .before
+      Need-loop-again = (c : After-work) → Inv·0 (Row.get 1 (T3 .locals) (m2 (c .before .before .before .before .before .before .before
           .before .before .before .before .before) (c .before .before .before .before .before .before .before .before .before .before
           .before .shared-slice-known .given)) .now) (Row.get 2 (T3 .locals) (m2 (c .before .before .before .before .before .before
           .before .before .before .before .before .before) (c .before .before .before .before .before .before .before .before .before
@@ -1708,8 +1708,8 @@ module _ (claims· : Claims) where
           .before .before .before .before .before .before .before) (c .before .before .before .before .before .before .before .before
           .before .before .before .shared-slice-known .given))) (Row.get 5 (T3 .locals) (m2 (c .before .before .before .before .before
           .before .before .before .before .before .before .before) (c .before .before .before .before .before .before .before .before
-          .before .before .before .shared-slice-known .given))) (Row.get 2 (T3 .locals) (m29 (c .before) (c .w .given)) .now) (Row.get 5
-          (T3 .locals) (m29 (c .before) (c .w .given)))
+          .before .before .before .shared-slice-known .given))) (Row.get 2 (T3 .locals) (m29 (c .before) (c .work .given)) .now)
+          (Row.get 5 (T3 .locals) (m29 (c .before) (c .work .given)))
 
       module _ (before· : After-formula-at) where
         pub record Else1·own : Type 0 where
@@ -1737,7 +1737,7 @@ module _ (claims· : Claims) where
           .before .before .shared-slice-known .given))) (Row.get 4 (T3 .locals) (m2 (c .before .before .before .before .before .before)
           (c .before .before .before .before .before .shared-slice-known .given))) (Row.get 5 (T3 .locals) (m2 (c .before .before
           .before .before .before .before) (c .before .before .before .before .before .shared-slice-known .given))) (c .before .before
-          .before .before .loop .w) (c .before .before .before .before .loop .i))
+          .before .before .loop .work) (c .before .before .before .before .loop .i))
 
       abbrev pub Need-loop-again-2 : Type 0
       Need-loop-again-2 = (c : Else1) → Inv·0 (Row.get 1 (T3 .locals) (m2 (c .before .before .before .before .before .before) (c .before
@@ -1790,7 +1790,7 @@ module _ (claims· : Claims) where
           returns-2 record { before = c .before; loop-test = c .loop-test },
         )
 
-        lay9 : (c : Else1) → at24 (W3 (c .before .before .before .before .before) (c .before .before .before .before .loop .w) (c
+        lay9 : (c : Else1) → at24 (W3 (c .before .before .before .before .before) (c .before .before .before .before .loop .work) (c
             .before .before .before .before .loop .i)) (m14 (c .before .before) (After-formula-at·gave (c .before)))
         lay9 = λ c. (
           μ·0 (Row.get 1 (T3 .locals) (m2 (c .before .before .before .before .before .before) (c .before .before .before
@@ -1820,7 +1820,7 @@ module _ (claims· : Claims) where
         )
 
         lay8 : (c : Else2) → at18 (W3 (c .before .before .before .before .before .before .before .before) (c .before .before .before
-            .before .before .before .before .loop .w) (c .before .before .before .before .before .before .before .loop .i)) (m24 (c
+            .before .before .before .before .loop .work) (c .before .before .before .before .before .before .before .loop .i)) (m24 (c
             .before))
         lay8 = λ c. λ g. (
           Path'.refl,
@@ -1880,13 +1880,13 @@ module _ (claims· : Claims) where
                         ) (m26 record
                         { before = c .before; if2 = c .if2 } g) g';
                   };
-                  w = record { given = g'' };
+                  work = record { given = g'' };
                 },
                 (
                   (
                     Row.get 2 (T3 .locals) (m29 record {
-                      before =
-                          record { before = record { before = c .before; if2 = c .if2 }; mark-parts-arg = record { given = g } };
+                      before
+                          = record { before = record { before = c .before; if2 = c .if2 }; mark-parts-arg = record { given = g } };
                       mark-parts =
                           Called.called ps·3 r·3 (claims· .7) T33 (
                             record { pos = 1; ty = Syntax.tyRef (Syntax.named 0) Syntax.imm y3; ref = λ x. x },
@@ -1938,10 +1938,10 @@ module _ (claims· : Claims) where
                           ) (m26 record
                           { before = c .before; if2 = c .if2 } g) g';
                     };
-                    w = record { given = g'' };
+                    work = record { given = g'' };
                   },
-                  Path'.refl {a = μ·0 (Row.get 1 (T3 .locals) (m2
-                      (c .before .before .before .before .before .before .before .before .before) (c .before .before .before .before .before
+                  Path'.refl {a = μ·0 (Row.get 1 (T3 .locals)
+                      (m2 (c .before .before .before .before .before .before .before .before .before) (c .before .before .before .before .before
                       .before .before .before .shared-slice-known .given)) .now) (Row.get 2 (T3 .locals) (m2 (c .before .before .before .before
                       .before .before .before .before .before) (c .before .before .before .before .before .before .before .before
                       .shared-slice-known .given)) .now) (Row.get 3 (T3 .locals) (m2 (c .before .before .before .before .before .before .before
@@ -1983,7 +1983,7 @@ module _ (claims· : Claims) where
         )
 
         lay7 : (c : After-open-leaf) → at19 (W3 (c .before .before .before .before .before .before .before) (c .before .before .before
-            .before .before .before .loop .w) (c .before .before .before .before .before .before .loop .i)) (m17 (c .before)
+            .before .before .before .loop .work) (c .before .before .before .before .before .before .loop .i)) (m17 (c .before)
             (After-open-leaf·gave c))
         lay7 = λ c. (
           λ taken. (
@@ -2006,7 +2006,7 @@ module _ (claims· : Claims) where
         )
 
         lay6 : (c : After-word) → at20 (W3 (c .before .before .before .before .before .before) (c .before .before .before .before
-            .before .loop .w) (c .before .before .before .before .before .loop .i)) (m16 (c .before) (After-word·gave c))
+            .before .loop .work) (c .before .before .before .before .before .loop .i)) (m16 (c .before) (After-word·gave c))
         lay6 = λ c. (
           open-leaf-requires record { before = c .before; word = c .word },
           λ g. lay7 record {
@@ -2017,7 +2017,7 @@ module _ (claims· : Claims) where
           },
         )
 
-        lay5 : (c : Then1) → at22 (W3 (c .before .before .before .before .before) (c .before .before .before .before .loop .w) (c
+        lay5 : (c : Then1) → at22 (W3 (c .before .before .before .before .before) (c .before .before .before .before .loop .work) (c
             .before .before .before .before .loop .i)) (m14 (c .before .before) (After-formula-at·gave (c .before)))
         lay5 = λ c. (
           word-requires record { before = c .before; if1 = c .if1 },
@@ -2030,7 +2030,7 @@ module _ (claims· : Claims) where
           },
         )
 
-        lay4 : (c : After-formula-at) → at31 (W3 (c .before .before .before .before) (c .before .before .before .loop .w) (c .before
+        lay4 : (c : After-formula-at) → at31 (W3 (c .before .before .before .before) (c .before .before .before .loop .work) (c .before
             .before .before .loop .i)) (m10 (c .before) (After-formula-at·gave c))
         lay4 = λ c. (
           tt,
@@ -2054,7 +2054,7 @@ module _ (claims· : Claims) where
           ),
         )
 
-        lay3 : (c : In-loop) → at36 (W3 (c .before .before) (c .before .loop .w) (c .before .loop .i)) (m5 (c .before))
+        lay3 : (c : In-loop) → at36 (W3 (c .before .before) (c .before .loop .work) (c .before .loop .i)) (m5 (c .before))
         lay3 = λ c. (
           sub-i record { before = c .before; loop-test = c .loop-test },
           λ g. (
@@ -2078,12 +2078,12 @@ module _ (claims· : Claims) where
           ),
         )
 
-        lay2 : (c : After-loop) → at3 (W4 (c .before .before) (c .before .loop .w) (c .before .loop .i)) (m4 (c .before .before) (c
-            .before .loop .w) (c .before .loop .i))
+        lay2 : (c : After-loop) → at3 (W4 (c .before .before) (c .before .loop .work) (c .before .loop .i)) (m4 (c .before .before) (c
+            .before .loop .work) (c .before .loop .i))
         lay2 = λ c. lay10 record { before = c .before; loop-test = c .loop-test }
 
-        lay1 : (c : In-loop) → at1 (W4 (c .before .before) (c .before .loop .w) (c .before .loop .i)) (m4 (c .before .before) (c .before
-            .loop .w) (c .before .loop .i))
+        lay1 : (c : In-loop) → at1 (W4 (c .before .before) (c .before .loop .work) (c .before .loop .i)) (m4 (c .before .before) (c
+            .before .loop .work) (c .before .loop .i))
         lay1 = λ c. lay3 record { before = c .before; loop-test = c .loop-test }
 
         pub laid : (c : Start) → at48 (W0 (c .κs) (c .args)) (m0 (c .κs) (c .args))
@@ -2101,7 +2101,7 @@ module _ (claims· : Claims) where
                     = record {
                       before = record { before = c; shared-slice-known = record { given = g } };
                       loop = record
-                          { w = vs .0; i = vs .1; inv = inv };
+                          { work = vs .0; i = vs .1; inv = inv };
                     };
                 loop-test = record {
                   taken = Tests.ltb-true 0 (Row.get 5 (T3 .locals) (m3 record
@@ -2112,7 +2112,7 @@ module _ (claims· : Claims) where
                 before = record {
                   before = record { before = c; shared-slice-known = record { given = g } };
                   loop = record
-                      { w = vs .0; i = vs .1; inv = inv };
+                      { work = vs .0; i = vs .1; inv = inv };
                 };
                 loop-test = record {
                   left = Tests.ltb-false 0 (Row.get 5 (T3 .locals) (m3 record
@@ -2129,7 +2129,7 @@ module _ (claims· : Claims) where
           asked = λ a good pre bs. laid record {
             κs = κs;
             args = record
-                { f = a .0; w = a .1 .0; count = a .1 .1 .0; from = a .1 .1 .1 .0 };
+                { words = a .0; work = a .1 .0; count = a .1 .1 .0; from = a .1 .1 .1 .0 };
             good = good;
             fits = record
                 { count = record { fits = good .1 .1 .0 .1 }; from = record { fits = good .1 .1 .1 .0 .1 } };

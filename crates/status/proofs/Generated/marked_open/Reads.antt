@@ -40,23 +40,23 @@ module _ (κs : Lifetimes.Lfts 2) where
       Clauses.AtExit (Kinds'.endedOf 2 Kinds.ps Kinds.r) κs) → (w : World.World) → World.Pr w
   ensures = λ a g r s w. marked_open.clauses (w .𝓤) (w .H) (w .𝓖 .A) (w .𝓜 .mem) (w .𝓡 .run) κs a .ensures g r s
 
-  abbrev pub requires-1·read : (a : World.ArgsD marked_open.signature κs) → (g : Ghost) → Read.Read (World.In marked_open.signature κs
-      a) Read.no-know λ w. marked_open.requires-1 (w .𝓤) (w .H) κs (w .𝓖 .A) (w .𝓜 .mem) (w .𝓡 .run) (a .0) (a .1 .0) (a .1 .1 .0) (a .1
-      .1 .1 .0)
-  requires-1·read = λ a g. Read.all-models (λ w. marked_open.requires-1 (w .𝓤) (w .H) κs (w .𝓖 .A) (w .𝓜 .mem) (w .𝓡 .run) (a .0) (a .1
-      .0) (a .1 .1 .0) (a .1 .1 .1 .0)) (λ w. Read.r-last _) (λ w. Path'.refl) (λ w. Path'.refl) λ w. Path'.refl
+  abbrev pub requires-sizes·read : (a : World.ArgsD marked_open.signature κs) → (g : Ghost) → Read.Read (World.In marked_open.signature
+      κs a) Read.no-know λ w. marked_open.requires-sizes (w .𝓤) (w .H) κs (w .𝓖 .A) (w .𝓜 .mem) (w .𝓡 .run) (a .0) (a .1 .0) (a .1 .1
+      .0) (a .1 .1 .1 .0)
+  requires-sizes·read = λ a g. Read.all-models (λ w. marked_open.requires-sizes (w .𝓤) (w .H) κs (w .𝓖 .A) (w .𝓜 .mem) (w .𝓡 .run) (a
+      .0) (a .1 .0) (a .1 .1 .0) (a .1 .1 .1 .0)) (λ w. Read.r-last _) (λ w. Path'.refl) (λ w. Path'.refl) λ w. Path'.refl
 
-  abbrev pub requires-2·read : (a : World.ArgsD marked_open.signature κs) → (g : Ghost) → Read.Read (World.In marked_open.signature κs
-      a) Read.no-know λ w. marked_open.requires-2 (w .𝓤) (w .H) κs (w .𝓖 .A) (w .𝓜 .mem) (w .𝓡 .run) (a .0) (a .1 .0) (a .1 .1 .0) (a .1
-      .1 .1 .0)
-  requires-2·read = λ a g. Read.all-models (λ w. marked_open.requires-2 (w .𝓤) (w .H) κs (w .𝓖 .A) (w .𝓜 .mem) (w .𝓡 .run) (a .0) (a .1
-      .0) (a .1 .1 .0) (a .1 .1 .1 .0)) (λ w. Read.r-last _) (λ w. Path'.refl) (λ w. Path'.refl) λ w. Path'.refl
+  abbrev pub requires-good·read : (a : World.ArgsD marked_open.signature κs) → (g : Ghost) → Read.Read (World.In marked_open.signature
+      κs a) Read.no-know λ w. marked_open.requires-good (w .𝓤) (w .H) κs (w .𝓖 .A) (w .𝓜 .mem) (w .𝓡 .run) (a .0) (a .1 .0) (a .1 .1 .0)
+      (a .1 .1 .1 .0)
+  requires-good·read = λ a g. Read.all-models (λ w. marked_open.requires-good (w .𝓤) (w .H) κs (w .𝓖 .A) (w .𝓜 .mem) (w .𝓡 .run) (a .0)
+      (a .1 .0) (a .1 .1 .0) (a .1 .1 .1 .0)) (λ w. Read.r-last _) (λ w. Path'.refl) (λ w. Path'.refl) λ w. Path'.refl
 
   abbrev pub pre-read : (a : World.ArgsD marked_open.signature κs) → (g : Ghost) → Read.Read (World.In marked_open.signature κs a)
       Read.no-know (requires a g)
-  pre-read = λ a g. Read.read-join (λ w. marked_open.requires-1 (w .𝓤) (w .H) κs (w .𝓖 .A) (w .𝓜 .mem) (w .𝓡 .run) (a .0) (a .1 .0) (a
-      .1 .1 .0) (a .1 .1 .1 .0)) (λ w. marked_open.requires-2 (w .𝓤) (w .H) κs (w .𝓖 .A) (w .𝓜 .mem) (w .𝓡 .run) (a .0) (a .1 .0) (a .1
-      .1 .0) (a .1 .1 .1 .0)) (requires-1·read a g) (requires-2·read a g)
+  pre-read = λ a g. Read.read-join (λ w. marked_open.requires-sizes (w .𝓤) (w .H) κs (w .𝓖 .A) (w .𝓜 .mem) (w .𝓡 .run) (a .0) (a .1 .0)
+      (a .1 .1 .0) (a .1 .1 .1 .0)) (λ w. marked_open.requires-good (w .𝓤) (w .H) κs (w .𝓖 .A) (w .𝓜 .mem) (w .𝓡 .run) (a .0) (a .1 .0)
+      (a .1 .1 .0) (a .1 .1 .1 .0)) (requires-sizes·read a g) (requires-good·read a g)
 
   abbrev pub ensures-1·read : (a : World.ArgsD marked_open.signature κs) → (g : Ghost) → (r : World.ResD marked_open.signature κs) → (s
       : Clauses.AtExit (Kinds'.endedOf 2 Kinds.ps Kinds.r) κs) → Read.Read (Base a) (Owned r s) λ w. marked_open.ensures-1 (w .𝓤) (w .H)

@@ -970,13 +970,13 @@ module _ (claims· : Claims) where
 
       module _ (κs : Lifetimes.Lfts 2) where
         pub record Args : Type 0 where
-          pub f : Kinds.Den {n = 2} κs (ShrSlice.pShrS (Referent.rtF (Referent.fInt Syntax.w32)) 0 tt)
-          pub w : Kinds.Den {n = 2} κs (MutSlice.pMutS Element.row 1 tt)
+          pub words : Kinds.Den {n = 2} κs (ShrSlice.pShrS (Referent.rtF (Referent.fInt Syntax.w32)) 0 tt)
+          pub work : Kinds.Den {n = 2} κs (MutSlice.pMutS Element.row 1 tt)
           pub count : Kinds.Den {n = 2} κs (Num.pNum Syntax.w64)
           pub goal : Kinds.Den {n = 2} κs (Num.pNum Syntax.w64)
 
         abbrev pub dens : (a : Args) → Kinds.Dens κs ps
-        dens = λ a. (a .f, (a .w, (a .count, (a .goal, tt))))
+        dens = λ a. (a .words, (a .work, (a .count, (a .goal, tt))))
 
         module _ (args· : Args) where
           pub record Ranges : Type 0 where
@@ -1060,31 +1060,31 @@ module _ (claims· : Claims) where
       m6 = λ before given. s7 .next (m5 (before .before) (After-put·gave before)) given
 
       module _ (before· : After-put) where
-        pub record After-w·own : Type 0 where
+        pub record After-work·own : Type 0 where
           pub given : s7 .gives (m5 (before· .before) (After-put·gave before·))
 
-      pub record After-w : Type 0 where
+      pub record After-work : Type 0 where
         pub before : After-put
-        pub w : After-w·own before
+        pub work : After-work·own before
 
-      abbrev pub m7 : (before : After-w) → (given : s10 .gives (m6 (before .before) (before .w .given))) → Typed.Mo T12
-      m7 = λ before given. s10 .next (m6 (before .before) (before .w .given)) given
+      abbrev pub m7 : (before : After-work) → (given : s10 .gives (m6 (before .before) (before .work .given))) → Typed.Mo T12
+      m7 = λ before given. s10 .next (m6 (before .before) (before .work .given)) given
 
-      abbrev pub m8 : (before : After-w) → (given : s10 .gives (m6 (before .before) (before .w .given))) → Typed.Mo T13
+      abbrev pub m8 : (before : After-work) → (given : s10 .gives (m6 (before .before) (before .work .given))) → Typed.Mo T13
       m8 = λ before given. s11 .next (m7 before given)
 
-      module _ (before· : After-w) where
+      module _ (before· : After-work) where
         pub record After-marked-open-arg·own : Type 0 where
-          pub given : s10 .gives (m6 (before· .before) (before· .w .given))
+          pub given : s10 .gives (m6 (before· .before) (before· .work .given))
 
       pub record After-marked-open-arg : Type 0 where
-        pub before : After-w
+        pub before : After-work
         pub marked-open-arg : After-marked-open-arg·own before
 
       abbrev pub Need-add-marked-open : Type 0
       Need-add-marked-open = (c : After-marked-open-arg) → s12 .asks (m8 (c .before) (c .marked-open-arg .given))
 
-      abbrev pub m9 : (before : After-w) → (given : s10 .gives (m6 (before .before) (before .w .given))) → Typed.Mo T14
+      abbrev pub m9 : (before : After-work) → (given : s10 .gives (m6 (before .before) (before .work .given))) → Typed.Mo T14
       m9 = λ before given. s12 .next (m8 before given)
 
       abbrev pub Need-marked-open-requires : Type 0
@@ -1131,25 +1131,25 @@ module _ (claims· : Claims) where
       m12 = λ before given. s16 .next (m11 (before .before) (After-marked-open·gave before)) given
 
       module _ (before· : After-marked-open) where
-        pub record After-w2·own : Type 0 where
+        pub record After-work2·own : Type 0 where
           pub given : s16 .gives (m11 (before· .before) (After-marked-open·gave before·))
 
-      pub record After-w2 : Type 0 where
+      pub record After-work2 : Type 0 where
         pub before : After-marked-open
-        pub w2 : After-w2·own before
+        pub work2 : After-work2·own before
 
-      abbrev pub m13 : (before : After-w2) → (given : s19 .gives (m12 (before .before) (before .w2 .given))) → Typed.Mo T21
-      m13 = λ before given. s19 .next (m12 (before .before) (before .w2 .given)) given
+      abbrev pub m13 : (before : After-work2) → (given : s19 .gives (m12 (before .before) (before .work2 .given))) → Typed.Mo T21
+      m13 = λ before given. s19 .next (m12 (before .before) (before .work2 .given)) given
 
-      abbrev pub m14 : (before : After-w2) → (given : s19 .gives (m12 (before .before) (before .w2 .given))) → Typed.Mo T22
+      abbrev pub m14 : (before : After-work2) → (given : s19 .gives (m12 (before .before) (before .work2 .given))) → Typed.Mo T22
       m14 = λ before given. s20 .next (m13 before given)
 
-      module _ (before· : After-w2) where
+      module _ (before· : After-work2) where
         pub record After-clear-arg·own : Type 0 where
-          pub given : s19 .gives (m12 (before· .before) (before· .w2 .given))
+          pub given : s19 .gives (m12 (before· .before) (before· .work2 .given))
 
       pub record After-clear-arg : Type 0 where
-        pub before : After-w2
+        pub before : After-work2
         pub clear-arg : After-clear-arg·own before
 
       abbrev pub Need-clear-requires : Type 0
@@ -1194,28 +1194,28 @@ module _ (claims· : Claims) where
       m21 = λ before given. s29 (m20 before given)
 
       module _ (before· : After-clear) where
-        pub record After-w3·own : Type 0 where
+        pub record After-work3·own : Type 0 where
           pub given : s24 .gives (m16 (before· .before) (After-clear·gave before·))
 
-      pub record After-w3 : Type 0 where
+      pub record After-work3 : Type 0 where
         pub before : After-clear
-        pub w3 : After-w3·own before
+        pub work3 : After-work3·own before
 
       abbrev pub Need-same-length : Type 0
-      Need-same-length = (c : After-w3) → MutSlice.SameLen (Row.get 2 (T31 .locals) (m21 (c .before) (c .w3 .given))) (dens (c .before
-          .before .before .before .before .before .before .before .before .before .κs) (c .before .before .before .before .before
-          .before .before .before .before .before .args) .1 .0)
+      Need-same-length = (c : After-work3) → MutSlice.SameLen (Row.get 2 (T31 .locals) (m21 (c .before) (c .work3 .given))) (dens (c
+          .before .before .before .before .before .before .before .before .before .before .κs) (c .before .before .before .before
+          .before .before .before .before .before .before .args) .1 .0)
 
       abbrev pub Need-returns : Type 0
-      Need-returns = (c : After-w3) → Post· (c .before .before .before .before .before .before .before .before .before .before .κs)
+      Need-returns = (c : After-work3) → Post· (c .before .before .before .before .before .before .before .before .before .before .κs)
           (dens (c .before .before .before .before .before .before .before .before .before .before .κs) (c .before .before .before
           .before .before .before .before .before .before .before .args)) (Function.resV r (c .before .before .before .before .before
-          .before .before .before .before .before .κs) (m21 (c .before) (c .w3 .given) .0)) (Clauses.atExit (Kinds.endedOf 2 ps r) (c
+          .before .before .before .before .before .κs) (m21 (c .before) (c .work3 .given) .0)) (Clauses.atExit (Kinds.endedOf 2 ps r) (c
           .before .before .before .before .before .before .before .before .before .before .κs) (dens (c .before .before .before .before
           .before .before .before .before .before .before .κs) (c .before .before .before .before .before .before .before .before
           .before .before .args)) (Enter.lastsP (c .before .before .before .before .before .before .before .before .before .before .κs)
           1 ps xs (dens (c .before .before .before .before .before .before .before .before .before .before .κs) (c .before .before
-          .before .before .before .before .before .before .before .before .args)) (m21 (c .before) (c .w3 .given) .1)))
+          .before .before .before .before .before .before .before .before .args)) (m21 (c .before) (c .work3 .given) .1)))
 
       module _ (put-requires : Need-put-requires) (add-marked-open : Need-add-marked-open) (marked-open-requires :
           Need-marked-open-requires) (clear-requires : Need-clear-requires) (same-length : Need-same-length) (returns : Need-returns)
@@ -1233,12 +1233,11 @@ module _ (claims· : Claims) where
                       { before = c .before; clear = c .clear } g) .name) (Row.get 2 (T31 .locals) (m21 record
                       { before = c .before; clear = c .clear } g) .now) (dens (c .before .before .before .before .before .before .before .before
                       .before .κs) (c .before .before .before .before .before .before .before .before .before .args) .1 .0 .now) (same-length
-                      record { before = record { before = c .before; clear = c .clear }; w3 = record { given = g } }),
+                      record { before = record { before = c .before; clear = c .clear }; work3 = record { given = g } }),
                   (tt, (tt, tt)),
                 ),
               ),
-              returns
-                  record { before = record { before = c .before; clear = c .clear }; w3 = record { given = g } },
+              returns record { before = record { before = c .before; clear = c .clear }; work3 = record { given = g } },
             ),
           )
 
@@ -1251,20 +1250,20 @@ module _ (claims· : Claims) where
               (
                 clear-requires record {
                   before = record
-                      { before = record { before = c .before; marked-open = c .marked-open }; w2 = record { given = g } };
+                      { before = record { before = c .before; marked-open = c .marked-open }; work2 = record { given = g } };
                   clear-arg = record
                       { given = g' };
                 },
                 λ g''. lay3 record {
                   before = record {
                     before = record
-                        { before = record { before = c .before; marked-open = c .marked-open }; w2 = record { given = g } };
+                        { before = record { before = c .before; marked-open = c .marked-open }; work2 = record { given = g } };
                     clear-arg = record
                         { given = g' };
                   };
                   clear = Called.called ps·2 r·2 (claims· .5) T22
                       (record { pos = 13; ty = Syntax.tyRef Syntax.erased Syntax.mut Element.named; ref = λ x. x }, tt) (m14 record
-                      { before = record { before = c .before; marked-open = c .marked-open }; w2 = record { given = g } } g') g'';
+                      { before = record { before = c .before; marked-open = c .marked-open }; work2 = record { given = g } } g') g'';
                 },
               ),
             ),
@@ -1279,21 +1278,21 @@ module _ (claims· : Claims) where
               (
                 add-marked-open record {
                   before = record
-                      { before = record { before = c .before; put = c .put }; w = record { given = g } };
+                      { before = record { before = c .before; put = c .put }; work = record { given = g } };
                   marked-open-arg = record
                       { given = g' };
                 },
                 (
                   marked-open-requires record {
                     before = record
-                        { before = record { before = c .before; put = c .put }; w = record { given = g } };
+                        { before = record { before = c .before; put = c .put }; work = record { given = g } };
                     marked-open-arg = record
                         { given = g' };
                   },
                   λ g''. lay2 record {
                     before = record {
                       before = record
-                          { before = record { before = c .before; put = c .put }; w = record { given = g } };
+                          { before = record { before = c .before; put = c .put }; work = record { given = g } };
                       marked-open-arg = record
                           { given = g' };
                     };
@@ -1306,7 +1305,7 @@ module _ (claims· : Claims) where
                         (Num.vAt 3 λ x. x, (Num.vAt 11 λ x. x, tt)),
                       ),
                     ) (m9 record
-                        { before = record { before = c .before; put = c .put }; w = record { given = g } } g') g'';
+                        { before = record { before = c .before; put = c .put }; work = record { given = g } } g') g'';
                   },
                 ),
               ),
@@ -1340,7 +1339,7 @@ module _ (claims· : Claims) where
             asked = λ a good pre bs. laid record {
               κs = κs;
               args = record
-                  { f = a .0; w = a .1 .0; count = a .1 .1 .0; goal = a .1 .1 .1 .0 };
+                  { words = a .0; work = a .1 .0; count = a .1 .1 .0; goal = a .1 .1 .1 .0 };
               good = good;
               fits = record
                   { count = record { fits = good .1 .1 .0 .1 }; goal = record { fits = good .1 .1 .1 .0 .1 } };

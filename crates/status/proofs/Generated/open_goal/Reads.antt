@@ -40,61 +40,61 @@ module _ (κs : Lifetimes.Lfts 2) where
       Clauses.AtExit (Kinds'.endedOf 2 Kinds.ps Kinds.r) κs) → (w : World.World) → World.Pr w
   ensures = λ a g r s w. open_goal.clauses (w .𝓤) (w .H) (w .𝓖 .A) (w .𝓜 .mem) (w .𝓡 .run) κs a .ensures g r s
 
-  abbrev pub requires-1·read : (a : World.ArgsD open_goal.signature κs) → (g : Ghost) → Read.Read (World.In open_goal.signature κs a)
-      Read.no-know λ w. open_goal.requires-1 (w .𝓤) (w .H) κs (w .𝓖 .A) (w .𝓜 .mem) (w .𝓡 .run) (a .0) (a .1 .0) (a .1 .1 .0) (a .1 .1
-      .1 .0)
-  requires-1·read = λ a g. Read.all-models (λ w. open_goal.requires-1 (w .𝓤) (w .H) κs (w .𝓖 .A) (w .𝓜 .mem) (w .𝓡 .run) (a .0) (a .1
-      .0) (a .1 .1 .0) (a .1 .1 .1 .0)) (λ w. Read.r-last _) (λ w. Path'.refl) (λ w. Path'.refl) λ w. Path'.refl
+  abbrev pub requires-sizes·read : (a : World.ArgsD open_goal.signature κs) → (g : Ghost) → Read.Read (World.In open_goal.signature κs
+      a) Read.no-know λ w. open_goal.requires-sizes (w .𝓤) (w .H) κs (w .𝓖 .A) (w .𝓜 .mem) (w .𝓡 .run) (a .0) (a .1 .0) (a .1 .1 .0) (a
+      .1 .1 .1 .0)
+  requires-sizes·read = λ a g. Read.all-models (λ w. open_goal.requires-sizes (w .𝓤) (w .H) κs (w .𝓖 .A) (w .𝓜 .mem) (w .𝓡 .run) (a .0)
+      (a .1 .0) (a .1 .1 .0) (a .1 .1 .1 .0)) (λ w. Read.r-last _) (λ w. Path'.refl) (λ w. Path'.refl) λ w. Path'.refl
 
-  abbrev pub requires-2·read : (a : World.ArgsD open_goal.signature κs) → (g : Ghost) → Read.Read (World.In open_goal.signature κs a)
-      Read.no-know λ w. open_goal.requires-2 (w .𝓤) (w .H) κs (w .𝓖 .A) (w .𝓜 .mem) (w .𝓡 .run) (a .0) (a .1 .0) (a .1 .1 .0) (a .1 .1
-      .1 .0)
-  requires-2·read = λ a g. Read.all-models (λ w. open_goal.requires-2 (w .𝓤) (w .H) κs (w .𝓖 .A) (w .𝓜 .mem) (w .𝓡 .run) (a .0) (a .1
-      .0) (a .1 .1 .0) (a .1 .1 .1 .0)) (λ w. Read.r-last _) (λ w. Path'.refl) (λ w. Path'.refl) λ w. Path'.refl
+  abbrev pub requires-good·read : (a : World.ArgsD open_goal.signature κs) → (g : Ghost) → Read.Read (World.In open_goal.signature κs a)
+      Read.no-know λ w. open_goal.requires-good (w .𝓤) (w .H) κs (w .𝓖 .A) (w .𝓜 .mem) (w .𝓡 .run) (a .0) (a .1 .0) (a .1 .1 .0) (a .1
+      .1 .1 .0)
+  requires-good·read = λ a g. Read.all-models (λ w. open_goal.requires-good (w .𝓤) (w .H) κs (w .𝓖 .A) (w .𝓜 .mem) (w .𝓡 .run) (a .0) (a
+      .1 .0) (a .1 .1 .0) (a .1 .1 .1 .0)) (λ w. Read.r-last _) (λ w. Path'.refl) (λ w. Path'.refl) λ w. Path'.refl
 
-  abbrev pub requires-3·read : (a : World.ArgsD open_goal.signature κs) → (g : Ghost) → Read.Read (World.In open_goal.signature κs a)
-      Read.no-know λ w. open_goal.requires-3 (w .𝓤) (w .H) κs (w .𝓖 .A) (w .𝓜 .mem) (w .𝓡 .run) (a .0) (a .1 .0) (a .1 .1 .0) (a .1 .1
-      .1 .0)
-  requires-3·read = λ a g. Read.all-models (λ w. open_goal.requires-3 (w .𝓤) (w .H) κs (w .𝓖 .A) (w .𝓜 .mem) (w .𝓡 .run) (a .0) (a .1
-      .0) (a .1 .1 .0) (a .1 .1 .1 .0)) (λ w. Read.r-last _) (λ w. Path'.refl) (λ w. Path'.refl) λ w. Path'.refl
+  abbrev pub requires-work·read : (a : World.ArgsD open_goal.signature κs) → (g : Ghost) → Read.Read (World.In open_goal.signature κs a)
+      Read.no-know λ w. open_goal.requires-work (w .𝓤) (w .H) κs (w .𝓖 .A) (w .𝓜 .mem) (w .𝓡 .run) (a .0) (a .1 .0) (a .1 .1 .0) (a .1
+      .1 .1 .0)
+  requires-work·read = λ a g. Read.all-models (λ w. open_goal.requires-work (w .𝓤) (w .H) κs (w .𝓖 .A) (w .𝓜 .mem) (w .𝓡 .run) (a .0) (a
+      .1 .0) (a .1 .1 .0) (a .1 .1 .1 .0)) (λ w. Read.r-last _) (λ w. Path'.refl) (λ w. Path'.refl) λ w. Path'.refl
 
   abbrev pub pre-read : (a : World.ArgsD open_goal.signature κs) → (g : Ghost) → Read.Read (World.In open_goal.signature κs a)
       Read.no-know (requires a g)
-  pre-read = λ a g. Read.read-join (λ w. open_goal.requires-1 (w .𝓤) (w .H) κs (w .𝓖 .A) (w .𝓜 .mem) (w .𝓡 .run) (a .0) (a .1 .0) (a .1
-      .1 .0) (a .1 .1 .1 .0)) (λ w. Logic.sep (w .𝓤) (open_goal.requires-2 (w .𝓤) (w .H) κs (w .𝓖 .A) (w .𝓜 .mem) (w .𝓡 .run) (a .0) (a
-      .1 .0) (a .1 .1 .0) (a .1 .1 .1 .0)) (open_goal.requires-3 (w .𝓤) (w .H) κs (w .𝓖 .A) (w .𝓜 .mem) (w .𝓡 .run) (a .0) (a .1 .0) (a
-      .1 .1 .0) (a .1 .1 .1 .0))) (requires-1·read a g) (Read.read-join (λ w. open_goal.requires-2 (w .𝓤) (w .H) κs (w .𝓖 .A) (w .𝓜
-      .mem) (w .𝓡 .run) (a .0) (a .1 .0) (a .1 .1 .0) (a .1 .1 .1 .0)) (λ w. open_goal.requires-3 (w .𝓤) (w .H) κs (w .𝓖 .A) (w .𝓜 .mem)
-      (w .𝓡 .run) (a .0) (a .1 .0) (a .1 .1 .0) (a .1 .1 .1 .0)) (requires-2·read a g) (requires-3·read a g))
+  pre-read = λ a g. Read.read-join (λ w. open_goal.requires-sizes (w .𝓤) (w .H) κs (w .𝓖 .A) (w .𝓜 .mem) (w .𝓡 .run) (a .0) (a .1 .0) (a
+      .1 .1 .0) (a .1 .1 .1 .0)) (λ w. Logic.sep (w .𝓤) (open_goal.requires-good (w .𝓤) (w .H) κs (w .𝓖 .A) (w .𝓜 .mem) (w .𝓡 .run) (a
+      .0) (a .1 .0) (a .1 .1 .0) (a .1 .1 .1 .0)) (open_goal.requires-work (w .𝓤) (w .H) κs (w .𝓖 .A) (w .𝓜 .mem) (w .𝓡 .run) (a .0) (a
+      .1 .0) (a .1 .1 .0) (a .1 .1 .1 .0))) (requires-sizes·read a g) (Read.read-join (λ w. open_goal.requires-good (w .𝓤) (w .H) κs (w
+      .𝓖 .A) (w .𝓜 .mem) (w .𝓡 .run) (a .0) (a .1 .0) (a .1 .1 .0) (a .1 .1 .1 .0)) (λ w. open_goal.requires-work (w .𝓤) (w .H) κs (w .𝓖
+      .A) (w .𝓜 .mem) (w .𝓡 .run) (a .0) (a .1 .0) (a .1 .1 .0) (a .1 .1 .1 .0)) (requires-good·read a g) (requires-work·read a g))
 
-  abbrev pub ensures-1·read : (a : World.ArgsD open_goal.signature κs) → (g : Ghost) → (r : World.ResD open_goal.signature κs) → (s :
-      Clauses.AtExit (Kinds'.endedOf 2 Kinds.ps Kinds.r) κs) → Read.Read (Base a) (Owned r s) λ w. open_goal.ensures-1 (w .𝓤) (w .H) κs
-      (w .𝓖 .A) (w .𝓜 .mem) (w .𝓡 .run) (a .0) (a .1 .0) (a .1 .1 .0) (a .1 .1 .1 .0) record { entry = a .0; exit = s .0 } record
+  abbrev pub ensures-result·read : (a : World.ArgsD open_goal.signature κs) → (g : Ghost) → (r : World.ResD open_goal.signature κs) → (s
+      : Clauses.AtExit (Kinds'.endedOf 2 Kinds.ps Kinds.r) κs) → Read.Read (Base a) (Owned r s) λ w. open_goal.ensures-result (w .𝓤) (w
+      .H) κs (w .𝓖 .A) (w .𝓜 .mem) (w .𝓡 .run) (a .0) (a .1 .0) (a .1 .1 .0) (a .1 .1 .1 .0) record { entry = a .0; exit = s .0 } record
       { entry = a .1 .0; exit = s .1 .0 } record { entry = a .1 .1 .0; exit = s .1 .1 .0 } record
       { entry = a .1 .1 .1 .0; exit = s .1 .1 .1 .0 } r
-  ensures-1·read = λ a g r s. Read.all-models (λ w. open_goal.ensures-1 (w .𝓤) (w .H) κs (w .𝓖 .A) (w .𝓜 .mem) (w .𝓡 .run) (a .0) (a .1
-      .0) (a .1 .1 .0) (a .1 .1 .1 .0) record { entry = a .0; exit = s .0 } record { entry = a .1 .0; exit = s .1 .0 } record
+  ensures-result·read = λ a g r s. Read.all-models (λ w. open_goal.ensures-result (w .𝓤) (w .H) κs (w .𝓖 .A) (w .𝓜 .mem) (w .𝓡 .run) (a
+      .0) (a .1 .0) (a .1 .1 .0) (a .1 .1 .1 .0) record { entry = a .0; exit = s .0 } record { entry = a .1 .0; exit = s .1 .0 } record
       { entry = a .1 .1 .0; exit = s .1 .1 .0 } record { entry = a .1 .1 .1 .0; exit = s .1 .1 .1 .0 } r) (λ w. Read.r-last _) (λ w.
       Path'.refl) (λ w. Path'.refl) λ w. Path'.refl
 
-  abbrev pub ensures-2·read : (a : World.ArgsD open_goal.signature κs) → (g : Ghost) → (r : World.ResD open_goal.signature κs) → (s :
-      Clauses.AtExit (Kinds'.endedOf 2 Kinds.ps Kinds.r) κs) → Read.Read (Base a) (Owned r s) λ w. open_goal.ensures-2 (w .𝓤) (w .H) κs
-      (w .𝓖 .A) (w .𝓜 .mem) (w .𝓡 .run) (a .0) (a .1 .0) (a .1 .1 .0) (a .1 .1 .1 .0) record { entry = a .0; exit = s .0 } record
+  abbrev pub ensures-work·read : (a : World.ArgsD open_goal.signature κs) → (g : Ghost) → (r : World.ResD open_goal.signature κs) → (s :
+      Clauses.AtExit (Kinds'.endedOf 2 Kinds.ps Kinds.r) κs) → Read.Read (Base a) (Owned r s) λ w. open_goal.ensures-work (w .𝓤) (w .H)
+      κs (w .𝓖 .A) (w .𝓜 .mem) (w .𝓡 .run) (a .0) (a .1 .0) (a .1 .1 .0) (a .1 .1 .1 .0) record { entry = a .0; exit = s .0 } record
       { entry = a .1 .0; exit = s .1 .0 } record { entry = a .1 .1 .0; exit = s .1 .1 .0 } record
       { entry = a .1 .1 .1 .0; exit = s .1 .1 .1 .0 } r
-  ensures-2·read = λ a g r s. Read.all-models (λ w. open_goal.ensures-2 (w .𝓤) (w .H) κs (w .𝓖 .A) (w .𝓜 .mem) (w .𝓡 .run) (a .0) (a .1
-      .0) (a .1 .1 .0) (a .1 .1 .1 .0) record { entry = a .0; exit = s .0 } record { entry = a .1 .0; exit = s .1 .0 } record
+  ensures-work·read = λ a g r s. Read.all-models (λ w. open_goal.ensures-work (w .𝓤) (w .H) κs (w .𝓖 .A) (w .𝓜 .mem) (w .𝓡 .run) (a .0)
+      (a .1 .0) (a .1 .1 .0) (a .1 .1 .1 .0) record { entry = a .0; exit = s .0 } record { entry = a .1 .0; exit = s .1 .0 } record
       { entry = a .1 .1 .0; exit = s .1 .1 .0 } record { entry = a .1 .1 .1 .0; exit = s .1 .1 .1 .0 } r) (λ w. Read.r-last _) (λ w.
       Path'.refl) (λ w. Path'.refl) λ w. Path'.refl
 
   abbrev pub post-read : (a : World.ArgsD open_goal.signature κs) → (g : Ghost) → (r : World.ResD open_goal.signature κs) → (s :
       Clauses.AtExit (Kinds'.endedOf 2 Kinds.ps Kinds.r) κs) → Read.Read (Base a) (Owned r s) (ensures a g r s)
-  post-read = λ a g r s. Read.read-join (λ w. open_goal.ensures-1 (w .𝓤) (w .H) κs (w .𝓖 .A) (w .𝓜 .mem) (w .𝓡 .run) (a .0) (a .1 .0) (a
-      .1 .1 .0) (a .1 .1 .1 .0) record { entry = a .0; exit = s .0 } record { entry = a .1 .0; exit = s .1 .0 } record
-      { entry = a .1 .1 .0; exit = s .1 .1 .0 } record { entry = a .1 .1 .1 .0; exit = s .1 .1 .1 .0 } r) (λ w. open_goal.ensures-2 (w
-      .𝓤) (w .H) κs (w .𝓖 .A) (w .𝓜 .mem) (w .𝓡 .run) (a .0) (a .1 .0) (a .1 .1 .0) (a .1 .1 .1 .0) record { entry = a .0; exit = s .0 }
-      record { entry = a .1 .0; exit = s .1 .0 } record { entry = a .1 .1 .0; exit = s .1 .1 .0 } record
-      { entry = a .1 .1 .1 .0; exit = s .1 .1 .1 .0 } r) (ensures-1·read a g r s) (ensures-2·read a g r s)
+  post-read = λ a g r s. Read.read-join (λ w. open_goal.ensures-result (w .𝓤) (w .H) κs (w .𝓖 .A) (w .𝓜 .mem) (w .𝓡 .run) (a .0) (a .1
+      .0) (a .1 .1 .0) (a .1 .1 .1 .0) record { entry = a .0; exit = s .0 } record { entry = a .1 .0; exit = s .1 .0 } record
+      { entry = a .1 .1 .0; exit = s .1 .1 .0 } record { entry = a .1 .1 .1 .0; exit = s .1 .1 .1 .0 } r) (λ w. open_goal.ensures-work
+      (w .𝓤) (w .H) κs (w .𝓖 .A) (w .𝓜 .mem) (w .𝓡 .run) (a .0) (a .1 .0) (a .1 .1 .0) (a .1 .1 .1 .0) record
+      { entry = a .0; exit = s .0 } record { entry = a .1 .0; exit = s .1 .0 } record { entry = a .1 .1 .0; exit = s .1 .1 .0 } record
+      { entry = a .1 .1 .1 .0; exit = s .1 .1 .1 .0 } r) (ensures-result·read a g r s) (ensures-work·read a g r s)
 
 abbrev pub Pre : Kinds'.In 2 Kinds.ps
 Pre = Written.Pre 2 Kinds.ps Kinds.r Ghost requires ensures pre-read Pinned Owned post-read tt

@@ -1,7 +1,7 @@
 -- Made by tools/records.py from the sources; antt refuses it where it is stale. Assumes nothing.
 use Prim.Native.Nat
-use Rattle.claim.proofs.Outcome
-use Rattle.claim.proofs.Outcome.Laws
+use Rattle.call.proofs.Outcome
+use Rattle.call.proofs.Outcome.Laws
 use Rattle.context.proofs.Element
 use Rattle.status.proofs.Status
 use Rattle.status.proofs.Status.Laws as Laws'
@@ -66,7 +66,7 @@ abbrev y3 : Syntax.Ty
 y3 = Syntax.tyStruct (38 ∷ 91 ∷ 93 ∷ []) (Syntax.tcons y2 (Syntax.tcons y0 Syntax.tnil))
 
 abbrev y4 : Syntax.Ty
-y4 = Syntax.tyEnum (99 ∷ 108 ∷ 97 ∷ 105 ∷ 109 ∷ 58 ∷ 58 ∷ 79 ∷ 117 ∷ 116 ∷ 99 ∷ 111 ∷ 109 ∷ 101 ∷ []) (Syntax.ttcons (Syntax.tcons y0
+y4 = Syntax.tyEnum (99 ∷ 97 ∷ 108 ∷ 108 ∷ 58 ∷ 58 ∷ 79 ∷ 117 ∷ 116 ∷ 99 ∷ 111 ∷ 109 ∷ 101 ∷ []) (Syntax.ttcons (Syntax.tcons y0
     (Syntax.tcons y0 (Syntax.tcons y0 (Syntax.tcons y0 (Syntax.tcons y0 Syntax.tnil))))) (Syntax.ttcons (Syntax.tcons y0 (Syntax.tcons
     y0 (Syntax.tcons y0 (Syntax.tcons y0 Syntax.tnil)))) (Syntax.ttcons (Syntax.tcons y0 (Syntax.tcons y0 Syntax.tnil)) (Syntax.ttcons
     (Syntax.tcons y0 (Syntax.tcons y0 Syntax.tnil)) Syntax.ttnil))))
@@ -455,9 +455,9 @@ b24 = Syntax.assign (Syntax.place 22 []) (Syntax.aggregate ((Syntax.copy (Syntax
     ((Syntax.field 1) ∷ []))) ∷ []))
 
 abbrev b25 : Syntax.Body
-b25 = Syntax.call "status::search" ((Syntax.copy (Syntax.place 18 [])) ∷ (Syntax.copy (Syntax.place 8 [])) ∷ (Syntax.copy (Syntax.place
-    7 [])) ∷ (Syntax.copy (Syntax.place 20 [])) ∷ (Syntax.copy (Syntax.place 22 [])) ∷ (Syntax.copy (Syntax.place 6 [])) ∷ [])
-    (Syntax.place 16 [])
+b25 = Syntax.call "status::search_goal" ((Syntax.copy (Syntax.place 18 [])) ∷ (Syntax.copy (Syntax.place 8 [])) ∷ (Syntax.copy
+    (Syntax.place 7 [])) ∷ (Syntax.copy (Syntax.place 20 [])) ∷ (Syntax.copy (Syntax.place 22 [])) ∷ (Syntax.copy (Syntax.place 6 [])) ∷
+    []) (Syntax.place 16 [])
 
 abbrev b26 : Syntax.Body
 b26 = Syntax.call "status::refuted" ((Syntax.copy (Syntax.place 16 [])) ∷ []) (Syntax.place 0 [])
@@ -1047,8 +1047,8 @@ module _ (claims· : Claims) where
       abbrev pub Closed : Type 2
       Closed = (𝓤 : URA.URA M) (H : Wp.Heap 𝓤) (A : Atoms.Atoms 𝓤) (W : Kit.Given 𝓤 H A) (𝓣 : Wp.Tables 𝓤 H) (known0 : Plain.Known 𝓤 H A
           W 𝓣 0 ps·0 r·0 (claims· .0) (claims· .1) "formula::pack") (known1 : Plain.Known 𝓤 H A W 𝓣 1 ps·1 r·1 (claims· .2) (claims· .3)
-          "formula::store") (known2 : Plain.Known 𝓤 H A W 𝓣 3 ps·2 r·2 (claims· .4) (claims· .5) "status::search") (known3 : Plain.Known
-          𝓤 H A W 𝓣 0 ps·3 r·3 (claims· .6) (claims· .7) "status::refuted") → Statement.Triple 𝓤 (Wp.WpFn 𝓤 H (𝓣 .C) (𝓣 .Λ)
+          "formula::store") (known2 : Plain.Known 𝓤 H A W 𝓣 3 ps·2 r·2 (claims· .4) (claims· .5) "status::search_goal") (known3 :
+          Plain.Known 𝓤 H A W 𝓣 0 ps·3 r·3 (claims· .6) (claims· .7) "status::refuted") → Statement.Triple 𝓤 (Wp.WpFn 𝓤 H (𝓣 .C) (𝓣 .Λ)
           (Function.fnOf 3 ps r xs m hs body)) (Function.plainOf 𝓤 H A 3 ps r Pre· Post·)
 
     module _ where
@@ -1274,7 +1274,7 @@ module _ (claims· : Claims) where
       module _ {M : Type 1} (𝓤 : URA.URA M) (H : Wp.Heap 𝓤) (A : Atoms.Atoms 𝓤) (W : Kit.Given 𝓤 H A) (𝓣 : Wp.Tables 𝓤 H) where
         abbrev Knowns : Type 1
         Knowns = Plain.Known 𝓤 H A W 𝓣 0 ps·0 r·0 (claims· .0) (claims· .1) "formula::pack" × Plain.Known 𝓤 H A W 𝓣 1 ps·1 r·1 (claims·
-            .2) (claims· .3) "formula::store" × Plain.Known 𝓤 H A W 𝓣 3 ps·2 r·2 (claims· .4) (claims· .5) "status::search" ×
+            .2) (claims· .3) "formula::store" × Plain.Known 𝓤 H A W 𝓣 3 ps·2 r·2 (claims· .4) (claims· .5) "status::search_goal" ×
             Plain.Known 𝓤 H A W 𝓣 0 ps·3 r·3 (claims· .6) (claims· .7) "status::refuted"
 
       module _ (κs : Lifetimes.Lfts 3) (qs : Lifetimes.Shares 3) where
@@ -1818,7 +1818,7 @@ module _ (claims· : Claims) where
 
           d30 : Typed.Typed 𝓤 H A 𝓣 E G50 b29 Δ0 at30
           d30 = Typed.s-seq 𝓤 H A W 𝓣 E G50 G51 b25 b28 Δ0 (Typed.both s48) at29 (Plain.t-call-plain 𝓤 H A W 𝓣 3 ps·2 r·2 (claims· .4)
-              (claims· .5) "status::search" (known .2) E (λ pos β. β) G50 (
+              (claims· .5) "status::search_goal" (known .2) E (λ pos β. β) G50 (
                 record
                     { pos = 18; ty = Syntax.tyRef Syntax.erased Syntax.mut y1; ref = λ x. x },
                 (
@@ -2199,15 +2199,15 @@ module _ (claims· : Claims) where
 
       module _ (κs : Lifetimes.Lfts 3) where
         pub record Args : Type 0 where
-          pub f : Kinds.Den {n = 3} κs (MutSlice.pMutS (Referent.rtF (Referent.fInt Syntax.w32)) 0 tt)
+          pub words : Kinds.Den {n = 3} κs (MutSlice.pMutS (Referent.rtF (Referent.fInt Syntax.w32)) 0 tt)
           pub count : Kinds.Den {n = 3} κs (Num.pNum Syntax.w64)
           pub goal : Kinds.Den {n = 3} κs (Num.pNum Syntax.w64)
-          pub t : Kinds.Den {n = 3} κs (MutSlice.pMutS (Referent.rtF (Referent.fInt Syntax.w16)) 1 tt)
-          pub w : Kinds.Den {n = 3} κs (MutSlice.pMutS Element.row 2 tt)
+          pub terms : Kinds.Den {n = 3} κs (MutSlice.pMutS (Referent.rtF (Referent.fInt Syntax.w16)) 1 tt)
+          pub work : Kinds.Den {n = 3} κs (MutSlice.pMutS Element.row 2 tt)
           pub steps : Kinds.Den {n = 3} κs (Num.pNum Syntax.w64)
 
         abbrev pub dens : (a : Args) → Kinds.Dens κs ps
-        dens = λ a. (a .f, (a .count, (a .goal, (a .t, (a .w, (a .steps, tt))))))
+        dens = λ a. (a .words, (a .count, (a .goal, (a .terms, (a .work, (a .steps, tt))))))
 
         module _ (args· : Args) where
           pub record Ranges : Type 0 where
@@ -2397,22 +2397,22 @@ module _ (claims· : Claims) where
       m20 = λ before given. s21 .next (m19 (before .before) (After-store·gave before)) given
 
       module _ (before· : After-store) where
-        pub record After-f·own : Type 0 where
+        pub record After-words·own : Type 0 where
           pub given : s21 .gives (m19 (before· .before) (After-store·gave before·))
 
-      pub record After-f : Type 0 where
+      pub record After-words : Type 0 where
         pub before : After-store
-        pub f : After-f·own before
+        pub words : After-words·own before
 
-      abbrev pub m21 : (before : After-f) → (given : s22 .gives (m20 (before .before) (before .f .given))) → Typed.Mo T25
-      m21 = λ before given. s22 .next (m20 (before .before) (before .f .given)) given
+      abbrev pub m21 : (before : After-words) → (given : s22 .gives (m20 (before .before) (before .words .given))) → Typed.Mo T25
+      m21 = λ before given. s22 .next (m20 (before .before) (before .words .given)) given
 
-      module _ (before· : After-f) where
+      module _ (before· : After-words) where
         pub record After-slice-known3·own : Type 0 where
-          pub given : s22 .gives (m20 (before· .before) (before· .f .given))
+          pub given : s22 .gives (m20 (before· .before) (before· .words .given))
 
       pub record After-slice-known3 : Type 0 where
-        pub before : After-f
+        pub before : After-words
         pub slice-known3 : After-slice-known3·own before
 
       abbrev pub m22 : (before : After-slice-known3) → (given : s25 .gives (m21 (before .before) (before .slice-known3 .given))) →
@@ -2498,22 +2498,22 @@ module _ (claims· : Claims) where
       m30 = λ before given. s34 .next (m29 (before .before) (After-store2·gave before)) given
 
       module _ (before· : After-store2) where
-        pub record After-f2·own : Type 0 where
+        pub record After-words2·own : Type 0 where
           pub given : s34 .gives (m29 (before· .before) (After-store2·gave before·))
 
-      pub record After-f2 : Type 0 where
+      pub record After-words2 : Type 0 where
         pub before : After-store2
-        pub f2 : After-f2·own before
+        pub words2 : After-words2·own before
 
-      abbrev pub m31 : (before : After-f2) → (given : s35 .gives (m30 (before .before) (before .f2 .given))) → Typed.Mo T38
-      m31 = λ before given. s35 .next (m30 (before .before) (before .f2 .given)) given
+      abbrev pub m31 : (before : After-words2) → (given : s35 .gives (m30 (before .before) (before .words2 .given))) → Typed.Mo T38
+      m31 = λ before given. s35 .next (m30 (before .before) (before .words2 .given)) given
 
-      module _ (before· : After-f2) where
+      module _ (before· : After-words2) where
         pub record After-slice-known4·own : Type 0 where
-          pub given : s35 .gives (m30 (before· .before) (before· .f2 .given))
+          pub given : s35 .gives (m30 (before· .before) (before· .words2 .given))
 
       pub record After-slice-known4 : Type 0 where
-        pub before : After-f2
+        pub before : After-words2
         pub slice-known4 : After-slice-known4·own before
 
       abbrev pub m32 : (before : After-slice-known4) → (given : s38 .gives (m31 (before .before) (before .slice-known4 .given))) →
@@ -2525,69 +2525,69 @@ module _ (claims· : Claims) where
       m33 = λ before given. s39 .next (m32 before given)
 
       module _ (before· : After-slice-known4) where
-        pub record After-search-arg·own : Type 0 where
+        pub record After-search-goal-arg·own : Type 0 where
           pub given : s38 .gives (m31 (before· .before) (before· .slice-known4 .given))
 
-      pub record After-search-arg : Type 0 where
+      pub record After-search-goal-arg : Type 0 where
         pub before : After-slice-known4
-        pub search-arg : After-search-arg·own before
+        pub search-goal-arg : After-search-goal-arg·own before
 
-      abbrev pub Need-add-search : Type 0
-      Need-add-search = (c : After-search-arg) → s40 .asks (m33 (c .before) (c .search-arg .given))
+      abbrev pub Need-add-search-goal : Type 0
+      Need-add-search-goal = (c : After-search-goal-arg) → s40 .asks (m33 (c .before) (c .search-goal-arg .given))
 
       abbrev pub m34 : (before : After-slice-known4) → (given : s38 .gives (m31 (before .before) (before .slice-known4 .given))) →
           Typed.Mo T43
       m34 = λ before given. s40 .next (m33 before given)
 
-      abbrev pub Need-add-search-2 : Type 0
-      Need-add-search-2 = (c : After-search-arg) → s41 .asks (m34 (c .before) (c .search-arg .given))
+      abbrev pub Need-add-search-goal-2 : Type 0
+      Need-add-search-goal-2 = (c : After-search-goal-arg) → s41 .asks (m34 (c .before) (c .search-goal-arg .given))
 
       abbrev pub m35 : (before : After-slice-known4) → (given : s38 .gives (m31 (before .before) (before .slice-known4 .given))) →
           Typed.Mo T44
       m35 = λ before given. s41 .next (m34 before given)
 
-      abbrev pub m36 : (before : After-search-arg) → (given : s43 .gives (m35 (before .before) (before .search-arg .given))) → Typed.Mo
-          T46
-      m36 = λ before given. s43 .next (m35 (before .before) (before .search-arg .given)) given
+      abbrev pub m36 : (before : After-search-goal-arg) → (given : s43 .gives (m35 (before .before) (before .search-goal-arg .given))) →
+          Typed.Mo T46
+      m36 = λ before given. s43 .next (m35 (before .before) (before .search-goal-arg .given)) given
 
-      abbrev pub m37 : (before : After-search-arg) → (given : s43 .gives (m35 (before .before) (before .search-arg .given))) → Typed.Mo
-          T47
+      abbrev pub m37 : (before : After-search-goal-arg) → (given : s43 .gives (m35 (before .before) (before .search-goal-arg .given))) →
+          Typed.Mo T47
       m37 = λ before given. s44 .next (m36 before given)
 
-      module _ (before· : After-search-arg) where
-        pub record After-search-arg2·own : Type 0 where
-          pub given : s43 .gives (m35 (before· .before) (before· .search-arg .given))
+      module _ (before· : After-search-goal-arg) where
+        pub record After-search-goal-arg2·own : Type 0 where
+          pub given : s43 .gives (m35 (before· .before) (before· .search-goal-arg .given))
 
-      pub record After-search-arg2 : Type 0 where
-        pub before : After-search-arg
-        pub search-arg2 : After-search-arg2·own before
+      pub record After-search-goal-arg2 : Type 0 where
+        pub before : After-search-goal-arg
+        pub search-goal-arg2 : After-search-goal-arg2·own before
 
-      abbrev pub m38 : (before : After-search-arg2) → (given : s46 .gives (m37 (before .before) (before .search-arg2 .given))) →
-          Typed.Mo T49
-      m38 = λ before given. s46 .next (m37 (before .before) (before .search-arg2 .given)) given
+      abbrev pub m38 : (before : After-search-goal-arg2) → (given : s46 .gives (m37 (before .before) (before .search-goal-arg2 .given)))
+          → Typed.Mo T49
+      m38 = λ before given. s46 .next (m37 (before .before) (before .search-goal-arg2 .given)) given
 
-      abbrev pub m39 : (before : After-search-arg2) → (given : s46 .gives (m37 (before .before) (before .search-arg2 .given))) →
-          Typed.Mo T50
+      abbrev pub m39 : (before : After-search-goal-arg2) → (given : s46 .gives (m37 (before .before) (before .search-goal-arg2 .given)))
+          → Typed.Mo T50
       m39 = λ before given. s47 .next (m38 before given)
 
-      module _ (before· : After-search-arg2) where
-        pub record After-search-arg3·own : Type 0 where
-          pub given : s46 .gives (m37 (before· .before) (before· .search-arg2 .given))
+      module _ (before· : After-search-goal-arg2) where
+        pub record After-search-goal-arg3·own : Type 0 where
+          pub given : s46 .gives (m37 (before· .before) (before· .search-goal-arg2 .given))
 
-      pub record After-search-arg3 : Type 0 where
-        pub before : After-search-arg2
-        pub search-arg3 : After-search-arg3·own before
+      pub record After-search-goal-arg3 : Type 0 where
+        pub before : After-search-goal-arg2
+        pub search-goal-arg3 : After-search-goal-arg3·own before
 
-      abbrev pub Need-search-requires : Type 0
-      Need-search-requires = (c : After-search-arg3) → s48 .asks (m39 (c .before) (c .search-arg3 .given))
+      abbrev pub Need-search-goal-requires : Type 0
+      Need-search-goal-requires = (c : After-search-goal-arg3) → s48 .asks (m39 (c .before) (c .search-goal-arg3 .given))
 
-      abbrev pub m40 : (before : After-search-arg3) → (given : s48 .gives (m39 (before .before) (before .search-arg3 .given))) →
-          Typed.Mo T51
-      m40 = λ before given. s48 .next (m39 (before .before) (before .search-arg3 .given)) given
+      abbrev pub m40 : (before : After-search-goal-arg3) → (given : s48 .gives (m39 (before .before) (before .search-goal-arg3 .given)))
+          → Typed.Mo T51
+      m40 = λ before given. s48 .next (m39 (before .before) (before .search-goal-arg3 .given)) given
 
-      module _ (before· : After-search-arg3) where
-        abbrev pub After-search·own : Type 0
-        After-search·own = Called.Called ps·2 r·2 (claims· .5) T50 (
+      module _ (before· : After-search-goal-arg3) where
+        abbrev pub After-search-goal·own : Type 0
+        After-search-goal·own = Called.Called ps·2 r·2 (claims· .5) T50 (
           record
               { pos = 18; ty = Syntax.tyRef Syntax.erased Syntax.mut y1; ref = λ x. x },
           (
@@ -2606,14 +2606,15 @@ module _ (claims· : Claims) where
             ),
           ),
         ) (m39
-            (before· .before) (before· .search-arg3 .given))
+            (before· .before) (before· .search-goal-arg3 .given))
 
-      pub record After-search : Type 0 where
-        pub before : After-search-arg3
-        pub search : After-search·own before
+      pub record After-search-goal : Type 0 where
+        pub before : After-search-goal-arg3
+        pub search-goal : After-search-goal·own before
 
-      abbrev pub After-search·gave : (c : After-search) → s48 .gives (m39 (c .before .before) (c .before .search-arg3 .given))
-      After-search·gave = λ c. Called.given ps·2 r·2 (claims· .5) T50 (
+      abbrev pub After-search-goal·gave : (c : After-search-goal) → s48 .gives (m39 (c .before .before) (c .before .search-goal-arg3
+          .given))
+      After-search-goal·gave = λ c. Called.given ps·2 r·2 (claims· .5) T50 (
         record
             { pos = 18; ty = Syntax.tyRef Syntax.erased Syntax.mut y1; ref = λ x. x },
         (
@@ -2632,36 +2633,37 @@ module _ (claims· : Claims) where
           ),
         ),
       ) (m39 (c
-          .before .before) (c .before .search-arg3 .given)) (c .search)
+          .before .before) (c .before .search-goal-arg3 .given)) (c .search-goal)
 
-      abbrev pub m41 : (before : After-search-arg3) → (given : s48 .gives (m39 (before .before) (before .search-arg3 .given))) →
-          Typed.Mo T52
+      abbrev pub m41 : (before : After-search-goal-arg3) → (given : s48 .gives (m39 (before .before) (before .search-goal-arg3 .given)))
+          → Typed.Mo T52
       m41 = λ before given. s49 (m40 before given)
 
-      abbrev pub m42 : (before : After-search-arg3) → (given : s48 .gives (m39 (before .before) (before .search-arg3 .given))) →
-          Typed.Mo T53
+      abbrev pub m42 : (before : After-search-goal-arg3) → (given : s48 .gives (m39 (before .before) (before .search-goal-arg3 .given)))
+          → Typed.Mo T53
       m42 = λ before given. s50 (m41 before given)
 
-      abbrev pub m43 : (before : After-search) → (given : s52 .gives (m42 (before .before) (After-search·gave before))) → Typed.Mo T55
-      m43 = λ before given. s52 .next (m42 (before .before) (After-search·gave before)) given
+      abbrev pub m43 : (before : After-search-goal) → (given : s52 .gives (m42 (before .before) (After-search-goal·gave before))) →
+          Typed.Mo T55
+      m43 = λ before given. s52 .next (m42 (before .before) (After-search-goal·gave before)) given
 
-      module _ (before· : After-search) where
-        pub record After-f3·own : Type 0 where
-          pub given : s52 .gives (m42 (before· .before) (After-search·gave before·))
+      module _ (before· : After-search-goal) where
+        pub record After-words3·own : Type 0 where
+          pub given : s52 .gives (m42 (before· .before) (After-search-goal·gave before·))
 
-      pub record After-f3 : Type 0 where
-        pub before : After-search
-        pub f3 : After-f3·own before
+      pub record After-words3 : Type 0 where
+        pub before : After-search-goal
+        pub words3 : After-words3·own before
 
-      abbrev pub m44 : (before : After-f3) → (given : s53 .gives (m43 (before .before) (before .f3 .given))) → Typed.Mo T56
-      m44 = λ before given. s53 .next (m43 (before .before) (before .f3 .given)) given
+      abbrev pub m44 : (before : After-words3) → (given : s53 .gives (m43 (before .before) (before .words3 .given))) → Typed.Mo T56
+      m44 = λ before given. s53 .next (m43 (before .before) (before .words3 .given)) given
 
-      module _ (before· : After-f3) where
+      module _ (before· : After-words3) where
         pub record After-slice-known5·own : Type 0 where
-          pub given : s53 .gives (m43 (before· .before) (before· .f3 .given))
+          pub given : s53 .gives (m43 (before· .before) (before· .words3 .given))
 
       pub record After-slice-known5 : Type 0 where
-        pub before : After-f3
+        pub before : After-words3
         pub slice-known5 : After-slice-known5·own before
 
       abbrev pub m45 : (before : After-slice-known5) → (given : s56 .gives (m44 (before .before) (before .slice-known5 .given))) →
@@ -2669,22 +2671,22 @@ module _ (claims· : Claims) where
       m45 = λ before given. s56 .next (m44 (before .before) (before .slice-known5 .given)) given
 
       module _ (before· : After-slice-known5) where
-        pub record After-t·own : Type 0 where
+        pub record After-terms·own : Type 0 where
           pub given : s56 .gives (m44 (before· .before) (before· .slice-known5 .given))
 
-      pub record After-t : Type 0 where
+      pub record After-terms : Type 0 where
         pub before : After-slice-known5
-        pub t : After-t·own before
+        pub terms : After-terms·own before
 
-      abbrev pub m46 : (before : After-t) → (given : s57 .gives (m45 (before .before) (before .t .given))) → Typed.Mo T60
-      m46 = λ before given. s57 .next (m45 (before .before) (before .t .given)) given
+      abbrev pub m46 : (before : After-terms) → (given : s57 .gives (m45 (before .before) (before .terms .given))) → Typed.Mo T60
+      m46 = λ before given. s57 .next (m45 (before .before) (before .terms .given)) given
 
-      module _ (before· : After-t) where
+      module _ (before· : After-terms) where
         pub record After-slice-known6·own : Type 0 where
-          pub given : s57 .gives (m45 (before· .before) (before· .t .given))
+          pub given : s57 .gives (m45 (before· .before) (before· .terms .given))
 
       pub record After-slice-known6 : Type 0 where
-        pub before : After-t
+        pub before : After-terms
         pub slice-known6 : After-slice-known6·own before
 
       abbrev pub m47 : (before : After-slice-known6) → (given : s60 .gives (m46 (before .before) (before .slice-known6 .given))) →
@@ -2692,42 +2694,42 @@ module _ (claims· : Claims) where
       m47 = λ before given. s60 .next (m46 (before .before) (before .slice-known6 .given)) given
 
       module _ (before· : After-slice-known6) where
-        pub record After-w·own : Type 0 where
+        pub record After-work·own : Type 0 where
           pub given : s60 .gives (m46 (before· .before) (before· .slice-known6 .given))
 
-      pub record After-w : Type 0 where
+      pub record After-work : Type 0 where
         pub before : After-slice-known6
-        pub w : After-w·own before
+        pub work : After-work·own before
 
       abbrev pub Need-refuted-requires : Type 0
-      Need-refuted-requires = (c : After-w) → s62 .asks (m47 (c .before) (c .w .given))
+      Need-refuted-requires = (c : After-work) → s62 .asks (m47 (c .before) (c .work .given))
 
-      abbrev pub m48 : (before : After-w) → (given : s62 .gives (m47 (before .before) (before .w .given))) → Typed.Mo T65
-      m48 = λ before given. s62 .next (m47 (before .before) (before .w .given)) given
+      abbrev pub m48 : (before : After-work) → (given : s62 .gives (m47 (before .before) (before .work .given))) → Typed.Mo T65
+      m48 = λ before given. s62 .next (m47 (before .before) (before .work .given)) given
 
-      module _ (before· : After-w) where
+      module _ (before· : After-work) where
         abbrev pub After-refuted·own : Type 0
         After-refuted·own = Called.Called ps·3 r·3 (claims· .7) T63 (record { pos = 16; st = []; d = 0; at = λ x. x }, tt) (m47 (before·
-            .before) (before· .w .given))
+            .before) (before· .work .given))
 
       pub record After-refuted : Type 0 where
-        pub before : After-w
+        pub before : After-work
         pub refuted : After-refuted·own before
 
-      abbrev pub After-refuted·gave : (c : After-refuted) → s62 .gives (m47 (c .before .before) (c .before .w .given))
+      abbrev pub After-refuted·gave : (c : After-refuted) → s62 .gives (m47 (c .before .before) (c .before .work .given))
       After-refuted·gave = λ c. Called.given ps·3 r·3 (claims· .7) T63 (record { pos = 16; st = []; d = 0; at = λ x. x }, tt) (m47 (c
-          .before .before) (c .before .w .given)) (c .refuted)
+          .before .before) (c .before .work .given)) (c .refuted)
 
-      abbrev pub m49 : (before : After-w) → (given : s62 .gives (m47 (before .before) (before .w .given))) → Typed.Mo T66
+      abbrev pub m49 : (before : After-work) → (given : s62 .gives (m47 (before .before) (before .work .given))) → Typed.Mo T66
       m49 = λ before given. s63 (m48 before given)
 
-      abbrev pub m50 : (before : After-w) → (given : s62 .gives (m47 (before .before) (before .w .given))) → Typed.Mo T67
+      abbrev pub m50 : (before : After-work) → (given : s62 .gives (m47 (before .before) (before .work .given))) → Typed.Mo T67
       m50 = λ before given. s64 (m49 before given)
 
-      abbrev pub m51 : (before : After-w) → (given : s62 .gives (m47 (before .before) (before .w .given))) → Typed.Mo T68
+      abbrev pub m51 : (before : After-work) → (given : s62 .gives (m47 (before .before) (before .work .given))) → Typed.Mo T68
       m51 = λ before given. s65 (m50 before given)
 
-      abbrev pub m52 : (before : After-w) → (given : s62 .gives (m47 (before .before) (before .w .given))) → Typed.Mo T69
+      abbrev pub m52 : (before : After-work) → (given : s62 .gives (m47 (before .before) (before .work .given))) → Typed.Mo T69
       m52 = λ before given. s66 (m51 before given)
 
       abbrev pub Need-same-length : Type 0
@@ -2773,9 +2775,9 @@ module _ (claims· : Claims) where
 
       module _ (add-if1 : Need-add-if1) (returns : Need-returns) (pack-requires : Need-pack-requires) (store-requires :
           Need-store-requires) (add-store : Need-add-store) (pack-requires-2 : Need-pack-requires-2) (store-requires-2 :
-          Need-store-requires-2) (add-search : Need-add-search) (add-search-2 : Need-add-search-2) (search-requires :
-          Need-search-requires) (refuted-requires : Need-refuted-requires) (same-length : Need-same-length) (same-length-2 :
-          Need-same-length-2) (same-length-3 : Need-same-length-3) (returns-2 : Need-returns-2) where
+          Need-store-requires-2) (add-search-goal : Need-add-search-goal) (add-search-goal-2 : Need-add-search-goal-2)
+          (search-goal-requires : Need-search-goal-requires) (refuted-requires : Need-refuted-requires) (same-length : Need-same-length)
+          (same-length-2 : Need-same-length-2) (same-length-3 : Need-same-length-3) (returns-2 : Need-returns-2) where
         lay9 : (c : After-refuted) → at15 (W0 (c .before .before .before .before .before .before .before .before .before .before .before
             .before .before .before .before .before .before .before .before .before .before .before .before .κs) (c .before .before
             .before .before .before .before .before .before .before .before .before .before .before .before .before .before .before
@@ -2815,9 +2817,10 @@ module _ (claims· : Claims) where
           returns-2 record { before = c .before; refuted = c .refuted },
         )
 
-        lay8 : (c : After-search) → at29 (W0 (c .before .before .before .before .before .before .before .before .before .before .before
-            .before .before .before .before .before .before .κs) (c .before .before .before .before .before .before .before .before
-            .before .before .before .before .before .before .before .before .before .args)) (m40 (c .before) (After-search·gave c))
+        lay8 : (c : After-search-goal) → at29 (W0 (c .before .before .before .before .before .before .before .before .before .before
+            .before .before .before .before .before .before .before .κs) (c .before .before .before .before .before .before .before
+            .before .before .before .before .before .before .before .before .before .before .args)) (m40 (c .before)
+            (After-search-goal·gave c))
         lay8 = λ c. (
           Path'.refl,
           λ g. λ g'. (
@@ -2830,46 +2833,48 @@ module _ (claims· : Claims) where
                     before = record {
                       before = record {
                         before = record
-                            { before = record { before = c .before; search = c .search }; f3 = record { given = g } };
-                        slice-known5 = record
-                            { given = g' };
+                            { before = record { before = c .before; search-goal = c .search-goal }; words3 = record { given = g } };
+                        slice-known5 =
+                            record { given = g' };
                       };
-                      t = record { given = g'' };
+                      terms = record { given = g'' };
                     };
                     slice-known6 = record { given = g'3 };
                   };
-                  w = record { given = g'4 };
+                  work = record
+                      { given = g'4 };
                 },
-                λ
-                    g'5. lay9 record {
+                λ g'5. lay9 record {
+                  before = record {
+                    before = record {
                       before = record {
                         before = record {
-                          before = record {
-                            before = record {
-                              before = record
-                                  { before = record { before = c .before; search = c .search }; f3 = record { given = g } };
-                              slice-known5 = record
-                                  { given = g' };
-                            };
-                            t = record { given = g'' };
-                          };
-                          slice-known6 = record { given = g'3 };
+                          before =
+                              record { before = record { before = c .before; search-goal = c .search-goal }; words3 = record { given = g } };
+                          slice-known5
+                              = record { given = g' };
                         };
-                        w = record { given = g'4 };
+                        terms = record { given = g'' };
                       };
-                      refuted = Called.called ps·3 r·3 (claims· .7) T63 (record { pos = 16; st = []; d = 0; at = λ x. x }, tt) (m47 record {
+                      slice-known6 = record { given = g'3 };
+                    };
+                    work = record
+                        { given = g'4 };
+                  };
+                  refuted = Called.called ps·3 r·3 (claims· .7) T63 (record { pos = 16; st = []; d = 0; at = λ x. x }, tt)
+                      (m47 record {
                         before = record {
                           before = record {
                             before = record
-                                { before = record { before = c .before; search = c .search }; f3 = record { given = g } };
-                            slice-known5 = record
-                                { given = g' };
+                                { before = record { before = c .before; search-goal = c .search-goal }; words3 = record { given = g } };
+                            slice-known5 =
+                                record { given = g' };
                           };
-                          t = record { given = g'' };
+                          terms = record { given = g'' };
                         };
                         slice-known6 = record { given = g'3 };
                       } g'4) g'5;
-                    },
+                },
               ),
             ),
           ),
@@ -2883,73 +2888,70 @@ module _ (claims· : Claims) where
           λ g. λ g'. λ g''. (
             Path'.refl,
             (
-              add-search record {
+              add-search-goal record {
                 before = record {
                   before = record
-                      { before = record { before = c .before; store2 = c .store2 }; f2 = record { given = g } };
+                      { before = record { before = c .before; store2 = c .store2 }; words2 = record { given = g } };
                   slice-known4 = record
                       { given = g' };
                 };
-                search-arg = record { given = g'' };
+                search-goal-arg = record { given = g'' };
               },
               (
-                add-search-2 record {
+                add-search-goal-2 record {
                   before = record {
                     before = record
-                        { before = record { before = c .before; store2 = c .store2 }; f2 = record { given = g } };
+                        { before = record { before = c .before; store2 = c .store2 }; words2 = record { given = g } };
                     slice-known4 = record
                         { given = g' };
                   };
-                  search-arg = record { given = g'' };
+                  search-goal-arg = record { given = g'' };
                 },
                 λ g'3. (
                   Path'.refl,
                   λ g'4. (
                     Path'.refl,
                     (
-                      search-requires record {
-                        before = record {
-                          before = record {
+                      search-goal-requires
+                          record {
                             before = record {
-                              before = record
-                                  { before = record { before = c .before; store2 = c .store2 }; f2 = record { given = g } };
-                              slice-known4 = record
-                                  { given = g' };
+                              before = record {
+                                before = record {
+                                  before = record
+                                      { before = record { before = c .before; store2 = c .store2 }; words2 = record { given = g } };
+                                  slice-known4 = record
+                                      { given = g' };
+                                };
+                                search-goal-arg = record { given = g'' };
+                              };
+                              search-goal-arg2 = record { given = g'3 };
                             };
-                            search-arg = record { given = g'' };
-                          };
-                          search-arg2 = record { given = g'3 };
-                        };
-                        search-arg3 = record
-                            { given = g'4 };
-                      },
+                            search-goal-arg3
+                                = record { given = g'4 };
+                          },
                       λ g'5. lay8 record {
                         before = record {
                           before = record {
                             before = record {
                               before = record {
-                                before =
-                                    record { before = record { before = c .before; store2 = c .store2 }; f2 = record { given = g } };
-                                slice-known4 = record
-                                    { given = g' };
+                                before = record { before = record { before = c .before; store2 = c .store2 }; words2 = record { given = g } };
+                                slice-known4 = record { given = g' };
                               };
-                              search-arg = record { given = g'' };
+                              search-goal-arg = record { given = g'' };
                             };
-                            search-arg2 = record { given = g'3 };
+                            search-goal-arg2 = record
+                                { given = g'3 };
                           };
-                          search-arg3 = record
-                              { given = g'4 };
+                          search-goal-arg3 = record { given = g'4 };
                         };
-                        search = Called.called ps·2 r·2 (claims· .5) T50 (
-                          record
-                              { pos = 18; ty = Syntax.tyRef Syntax.erased Syntax.mut y1; ref = λ x. x },
+                        search-goal = Called.called ps·2 r·2 (claims· .5) T50 (
+                          record { pos = 18; ty = Syntax.tyRef Syntax.erased Syntax.mut y1; ref = λ x. x },
                           (
                             Num.vAt 8 λ x. x,
                             (
                               Num.vAt 7 λ x. x,
                               (
-                                record
-                                    { pos = 20; ty = Syntax.tyRef Syntax.erased Syntax.mut y5; ref = λ x. x },
+                                record { pos = 20; ty = Syntax.tyRef Syntax.erased Syntax.mut y5; ref = λ x. x },
                                 (
                                   record
                                       { pos = 22; ty = Syntax.tyRef Syntax.erased Syntax.mut Element.named; ref = λ x. x },
@@ -2963,13 +2965,13 @@ module _ (claims· : Claims) where
                               before = record {
                                 before = record {
                                   before = record
-                                      { before = record { before = c .before; store2 = c .store2 }; f2 = record { given = g } };
+                                      { before = record { before = c .before; store2 = c .store2 }; words2 = record { given = g } };
                                   slice-known4 = record
                                       { given = g' };
                                 };
-                                search-arg = record { given = g'' };
+                                search-goal-arg = record { given = g'' };
                               };
-                              search-arg2 = record { given = g'3 };
+                              search-goal-arg2 = record { given = g'3 };
                             } g'4) g'5;
                       },
                     ),
@@ -3007,7 +3009,7 @@ module _ (claims· : Claims) where
               add-store record {
                 before = record {
                   before = record
-                      { before = record { before = c .before; store = c .store }; f = record { given = g } };
+                      { before = record { before = c .before; store = c .store }; words = record { given = g } };
                   slice-known3 = record
                       { given = g' };
                 };
@@ -3017,7 +3019,7 @@ module _ (claims· : Claims) where
                 pack-requires-2 record {
                   before = record {
                     before = record
-                        { before = record { before = c .before; store = c .store }; f = record { given = g } };
+                        { before = record { before = c .before; store = c .store }; words = record { given = g } };
                     slice-known3 = record
                         { given = g' };
                   };
@@ -3027,7 +3029,7 @@ module _ (claims· : Claims) where
                   before = record {
                     before = record {
                       before =
-                          record { before = record { before = c .before; store = c .store }; f = record { given = g } };
+                          record { before = record { before = c .before; store = c .store }; words = record { given = g } };
                       slice-known3 = record
                           { given = g' };
                     };
@@ -3036,7 +3038,7 @@ module _ (claims· : Claims) where
                   pack2 = Called.called ps·0 r·0 (claims· .1) T30
                       (Num.vLit 5, (Num.vAt 3 λ x. x, (Num.vAt 2 λ x. x, tt))) (m24 record {
                         before = record
-                            { before = record { before = c .before; store = c .store }; f = record { given = g } };
+                            { before = record { before = c .before; store = c .store }; words = record { given = g } };
                         slice-known3 = record
                             { given = g' };
                       } g'') g'3;
@@ -3124,12 +3126,12 @@ module _ (claims· : Claims) where
           asked = λ a good pre bs. laid record {
             κs = κs;
             args = record {
-              f = a .0;
+              words = a .0;
               count = a .1 .0;
               goal = a .1 .1 .0;
-              t = a .1 .1 .1
-                  .0;
-              w = a .1 .1 .1 .1 .0;
+              terms = a .1
+                  .1 .1 .0;
+              work = a .1 .1 .1 .1 .0;
               steps = a .1 .1 .1 .1 .1 .0;
             };
             good = good;
@@ -3146,7 +3148,7 @@ module _ (claims· : Claims) where
         module _ {M : Type 1} (𝓤 : URA.URA M) (H : Wp.Heap 𝓤) (A : Atoms.Atoms 𝓤) (W : Kit.Given 𝓤 H A) (𝓣 : Wp.Tables 𝓤 H) (known0 :
             Plain.Known 𝓤 H A W 𝓣 0 ps·0 r·0 (claims· .0) (claims· .1) "formula::pack") (known1 : Plain.Known 𝓤 H A W 𝓣 1 ps·1 r·1
             (claims· .2) (claims· .3) "formula::store") (known2 : Plain.Known 𝓤 H A W 𝓣 3 ps·2 r·2 (claims· .4) (claims· .5)
-            "status::search") (known3 : Plain.Known 𝓤 H A W 𝓣 0 ps·3 r·3 (claims· .6) (claims· .7) "status::refuted") where
+            "status::search_goal") (known3 : Plain.Known 𝓤 H A W 𝓣 0 ps·3 r·3 (claims· .6) (claims· .7) "status::refuted") where
           pub spec : Statement.Triple 𝓤 (Wp.WpFn 𝓤 H (𝓣 .C) (𝓣 .Λ) (Function.fnOf 3 ps r xs m hs body)) (Function.plainOf 𝓤 H A 3 ps r
               Pre· Post·)
           spec = Plain.t-fn-plain 𝓤 H A W 𝓣 3 ps r xs m hs body (λ κs qs bs. Φ) (λ κs qs bs bd. typed κs qs 𝓤 H A W 𝓣

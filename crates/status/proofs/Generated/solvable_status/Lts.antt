@@ -1,7 +1,7 @@
 -- Made by tools/records.py from the sources; antt refuses it where it is stale. Assumes nothing.
 use Prim.Native.Nat
-use Rattle.claim.proofs.Outcome
-use Rattle.claim.proofs.Outcome.Laws
+use Rattle.call.proofs.Outcome
+use Rattle.call.proofs.Outcome.Laws
 use Rattle.context.proofs.Element
 use Rattle.status.proofs.Status
 use Rattle.status.proofs.Status.Laws as Laws'
@@ -71,7 +71,7 @@ y1 = Syntax.tyEnum (115 ∷ 116 ∷ 97 ∷ 116 ∷ 117 ∷ 115 ∷ 58 ∷ 58 ∷
     (Syntax.tcons y0 (Syntax.tcons y0 Syntax.tnil)) Syntax.ttnil)))))
 
 abbrev y2 : Syntax.Ty
-y2 = Syntax.tyEnum (99 ∷ 108 ∷ 97 ∷ 105 ∷ 109 ∷ 58 ∷ 58 ∷ 79 ∷ 117 ∷ 116 ∷ 99 ∷ 111 ∷ 109 ∷ 101 ∷ []) (Syntax.ttcons (Syntax.tcons y0
+y2 = Syntax.tyEnum (99 ∷ 97 ∷ 108 ∷ 108 ∷ 58 ∷ 58 ∷ 79 ∷ 117 ∷ 116 ∷ 99 ∷ 111 ∷ 109 ∷ 101 ∷ []) (Syntax.ttcons (Syntax.tcons y0
     (Syntax.tcons y0 (Syntax.tcons y0 (Syntax.tcons y0 (Syntax.tcons y0 Syntax.tnil))))) (Syntax.ttcons (Syntax.tcons y0 (Syntax.tcons
     y0 (Syntax.tcons y0 (Syntax.tcons y0 Syntax.tnil)))) (Syntax.ttcons (Syntax.tcons y0 (Syntax.tcons y0 Syntax.tnil)) (Syntax.ttcons
     (Syntax.tcons y0 (Syntax.tcons y0 Syntax.tnil)) Syntax.ttnil))))
@@ -450,9 +450,9 @@ b5 = Syntax.assign (Syntax.place 18 []) (Syntax.aggregate ((Syntax.copy (Syntax.
     ((Syntax.field 1) ∷ []))) ∷ []))
 
 abbrev b6 : Syntax.Body
-b6 = Syntax.call "status::search" ((Syntax.copy (Syntax.place 14 [])) ∷ (Syntax.copy (Syntax.place 2 [])) ∷ (Syntax.copy (Syntax.place 3
-    [])) ∷ (Syntax.copy (Syntax.place 16 [])) ∷ (Syntax.copy (Syntax.place 18 [])) ∷ (Syntax.copy (Syntax.place 6 [])) ∷ [])
-    (Syntax.place 12 [])
+b6 = Syntax.call "status::search_goal" ((Syntax.copy (Syntax.place 14 [])) ∷ (Syntax.copy (Syntax.place 2 [])) ∷ (Syntax.copy
+    (Syntax.place 3 [])) ∷ (Syntax.copy (Syntax.place 16 [])) ∷ (Syntax.copy (Syntax.place 18 [])) ∷ (Syntax.copy (Syntax.place 6 [])) ∷
+    []) (Syntax.place 12 [])
 
 abbrev b7 : Syntax.Body
 b7 = Syntax.assign (Syntax.place 21 []) (Syntax.addrOf (Syntax.place 1 ((Syntax.field 0) ∷ (Syntax.deref y3) ∷ [])))
@@ -1392,8 +1392,8 @@ module _ (claims· : Claims) where
     module _ (M : Type 1) where
       abbrev pub Closed : Type 2
       Closed = (𝓤 : URA.URA M) (H : Wp.Heap 𝓤) (A : Atoms.Atoms 𝓤) (W : Kit.Given 𝓤 H A) (𝓣 : Wp.Tables 𝓤 H) (known0 : Plain.Known 𝓤 H A
-          W 𝓣 3 ps·0 r·0 (claims· .0) (claims· .1) "status::search") (known1 : Plain.Known 𝓤 H A W 𝓣 2 ps·1 r·1 (claims· .2) (claims·
-          .3) "status::clean") (known2 : Plain.Known 𝓤 H A W 𝓣 3 ps·2 r·2 (claims· .4) (claims· .5) "status::unproved") →
+          W 𝓣 3 ps·0 r·0 (claims· .0) (claims· .1) "status::search_goal") (known1 : Plain.Known 𝓤 H A W 𝓣 2 ps·1 r·1 (claims· .2)
+          (claims· .3) "status::clean") (known2 : Plain.Known 𝓤 H A W 𝓣 3 ps·2 r·2 (claims· .4) (claims· .5) "status::unproved") →
           Statement.Triple 𝓤 (Wp.WpFn 𝓤 H (𝓣 .C) (𝓣 .Λ) (Function.fnOf 3 ps r xs m hs body)) (Function.plainOf 𝓤 H A 3 ps r Pre· Post·)
 
     module _ where
@@ -1709,8 +1709,8 @@ module _ (claims· : Claims) where
 
       module _ {M : Type 1} (𝓤 : URA.URA M) (H : Wp.Heap 𝓤) (A : Atoms.Atoms 𝓤) (W : Kit.Given 𝓤 H A) (𝓣 : Wp.Tables 𝓤 H) where
         abbrev Knowns : Type 1
-        Knowns = Plain.Known 𝓤 H A W 𝓣 3 ps·0 r·0 (claims· .0) (claims· .1) "status::search" × Plain.Known 𝓤 H A W 𝓣 2 ps·1 r·1 (claims·
-            .2) (claims· .3) "status::clean" × Plain.Known 𝓤 H A W 𝓣 3 ps·2 r·2 (claims· .4) (claims· .5) "status::unproved"
+        Knowns = Plain.Known 𝓤 H A W 𝓣 3 ps·0 r·0 (claims· .0) (claims· .1) "status::search_goal" × Plain.Known 𝓤 H A W 𝓣 2 ps·1 r·1
+            (claims· .2) (claims· .3) "status::clean" × Plain.Known 𝓤 H A W 𝓣 3 ps·2 r·2 (claims· .4) (claims· .5) "status::unproved"
 
       module _ (κs : Lifetimes.Lfts 3) (qs : Lifetimes.Shares 3) where
         abbrev g4 : List.List Row.Entry
@@ -3330,7 +3330,7 @@ module _ (claims· : Claims) where
 
           d90 : Typed.Typed 𝓤 H A 𝓣 E G12 b58 Δ0 at90
           d90 = Typed.s-seq 𝓤 H A W 𝓣 E G12 G13 b6 b57 Δ0 (Typed.both s11) at89 (Plain.t-call-plain 𝓤 H A W 𝓣 3 ps·0 r·0 (claims· .0)
-              (claims· .1) "status::search" (known .0) E (λ pos β. β) G12 (
+              (claims· .1) "status::search_goal" (known .0) E (λ pos β. β) G12 (
                 record
                     { pos = 14; ty = Syntax.tyRef Syntax.erased Syntax.mut y3; ref = λ x. x },
                 (
@@ -3611,15 +3611,15 @@ module _ (claims· : Claims) where
 
       module _ (κs : Lifetimes.Lfts 3) where
         pub record Args : Type 0 where
-          pub f : Kinds.Den {n = 3} κs (MutSlice.pMutS (Referent.rtF (Referent.fInt Syntax.w32)) 0 tt)
+          pub words : Kinds.Den {n = 3} κs (MutSlice.pMutS (Referent.rtF (Referent.fInt Syntax.w32)) 0 tt)
           pub count : Kinds.Den {n = 3} κs (Num.pNum Syntax.w64)
           pub goal : Kinds.Den {n = 3} κs (Num.pNum Syntax.w64)
-          pub t : Kinds.Den {n = 3} κs (MutSlice.pMutS (Referent.rtF (Referent.fInt Syntax.w16)) 1 tt)
-          pub w : Kinds.Den {n = 3} κs (MutSlice.pMutS Element.row 2 tt)
+          pub terms : Kinds.Den {n = 3} κs (MutSlice.pMutS (Referent.rtF (Referent.fInt Syntax.w16)) 1 tt)
+          pub work : Kinds.Den {n = 3} κs (MutSlice.pMutS Element.row 2 tt)
           pub steps : Kinds.Den {n = 3} κs (Num.pNum Syntax.w64)
 
         abbrev pub dens : (a : Args) → Kinds.Dens κs ps
-        dens = λ a. (a .f, (a .count, (a .goal, (a .t, (a .w, (a .steps, tt))))))
+        dens = λ a. (a .words, (a .count, (a .goal, (a .terms, (a .work, (a .steps, tt))))))
 
         module _ (args· : Args) where
           pub record Ranges : Type 0 where
@@ -3677,53 +3677,55 @@ module _ (claims· : Claims) where
       m4 = λ before given. s4 .next (m3 before given)
 
       module _ (before· : After-slice-known2) where
-        pub record After-search-arg·own : Type 0 where
+        pub record After-search-goal-arg·own : Type 0 where
           pub given : s3 .gives (m2 (before· .before) (before· .slice-known2 .given))
 
-      pub record After-search-arg : Type 0 where
+      pub record After-search-goal-arg : Type 0 where
         pub before : After-slice-known2
-        pub search-arg : After-search-arg·own before
+        pub search-goal-arg : After-search-goal-arg·own before
 
-      abbrev pub m5 : (before : After-search-arg) → (given : s6 .gives (m4 (before .before) (before .search-arg .given))) → Typed.Mo T8
-      m5 = λ before given. s6 .next (m4 (before .before) (before .search-arg .given)) given
+      abbrev pub m5 : (before : After-search-goal-arg) → (given : s6 .gives (m4 (before .before) (before .search-goal-arg .given))) →
+          Typed.Mo T8
+      m5 = λ before given. s6 .next (m4 (before .before) (before .search-goal-arg .given)) given
 
-      abbrev pub m6 : (before : After-search-arg) → (given : s6 .gives (m4 (before .before) (before .search-arg .given))) → Typed.Mo T9
+      abbrev pub m6 : (before : After-search-goal-arg) → (given : s6 .gives (m4 (before .before) (before .search-goal-arg .given))) →
+          Typed.Mo T9
       m6 = λ before given. s7 .next (m5 before given)
 
-      module _ (before· : After-search-arg) where
-        pub record After-search-arg2·own : Type 0 where
-          pub given : s6 .gives (m4 (before· .before) (before· .search-arg .given))
+      module _ (before· : After-search-goal-arg) where
+        pub record After-search-goal-arg2·own : Type 0 where
+          pub given : s6 .gives (m4 (before· .before) (before· .search-goal-arg .given))
 
-      pub record After-search-arg2 : Type 0 where
-        pub before : After-search-arg
-        pub search-arg2 : After-search-arg2·own before
+      pub record After-search-goal-arg2 : Type 0 where
+        pub before : After-search-goal-arg
+        pub search-goal-arg2 : After-search-goal-arg2·own before
 
-      abbrev pub m7 : (before : After-search-arg2) → (given : s9 .gives (m6 (before .before) (before .search-arg2 .given))) → Typed.Mo
-          T11
-      m7 = λ before given. s9 .next (m6 (before .before) (before .search-arg2 .given)) given
+      abbrev pub m7 : (before : After-search-goal-arg2) → (given : s9 .gives (m6 (before .before) (before .search-goal-arg2 .given))) →
+          Typed.Mo T11
+      m7 = λ before given. s9 .next (m6 (before .before) (before .search-goal-arg2 .given)) given
 
-      abbrev pub m8 : (before : After-search-arg2) → (given : s9 .gives (m6 (before .before) (before .search-arg2 .given))) → Typed.Mo
-          T12
+      abbrev pub m8 : (before : After-search-goal-arg2) → (given : s9 .gives (m6 (before .before) (before .search-goal-arg2 .given))) →
+          Typed.Mo T12
       m8 = λ before given. s10 .next (m7 before given)
 
-      module _ (before· : After-search-arg2) where
-        pub record After-search-arg3·own : Type 0 where
-          pub given : s9 .gives (m6 (before· .before) (before· .search-arg2 .given))
+      module _ (before· : After-search-goal-arg2) where
+        pub record After-search-goal-arg3·own : Type 0 where
+          pub given : s9 .gives (m6 (before· .before) (before· .search-goal-arg2 .given))
 
-      pub record After-search-arg3 : Type 0 where
-        pub before : After-search-arg2
-        pub search-arg3 : After-search-arg3·own before
+      pub record After-search-goal-arg3 : Type 0 where
+        pub before : After-search-goal-arg2
+        pub search-goal-arg3 : After-search-goal-arg3·own before
 
-      abbrev pub Need-search-requires : Type 0
-      Need-search-requires = (c : After-search-arg3) → s11 .asks (m8 (c .before) (c .search-arg3 .given))
+      abbrev pub Need-search-goal-requires : Type 0
+      Need-search-goal-requires = (c : After-search-goal-arg3) → s11 .asks (m8 (c .before) (c .search-goal-arg3 .given))
 
-      abbrev pub m9 : (before : After-search-arg3) → (given : s11 .gives (m8 (before .before) (before .search-arg3 .given))) → Typed.Mo
-          T13
-      m9 = λ before given. s11 .next (m8 (before .before) (before .search-arg3 .given)) given
+      abbrev pub m9 : (before : After-search-goal-arg3) → (given : s11 .gives (m8 (before .before) (before .search-goal-arg3 .given))) →
+          Typed.Mo T13
+      m9 = λ before given. s11 .next (m8 (before .before) (before .search-goal-arg3 .given)) given
 
-      module _ (before· : After-search-arg3) where
-        abbrev pub After-search·own : Type 0
-        After-search·own = Called.Called ps·0 r·0 (claims· .1) T12 (
+      module _ (before· : After-search-goal-arg3) where
+        abbrev pub After-search-goal·own : Type 0
+        After-search-goal·own = Called.Called ps·0 r·0 (claims· .1) T12 (
           record
               { pos = 14; ty = Syntax.tyRef Syntax.erased Syntax.mut y3; ref = λ x. x },
           (
@@ -3742,14 +3744,15 @@ module _ (claims· : Claims) where
             ),
           ),
         ) (m8
-            (before· .before) (before· .search-arg3 .given))
+            (before· .before) (before· .search-goal-arg3 .given))
 
-      pub record After-search : Type 0 where
-        pub before : After-search-arg3
-        pub search : After-search·own before
+      pub record After-search-goal : Type 0 where
+        pub before : After-search-goal-arg3
+        pub search-goal : After-search-goal·own before
 
-      abbrev pub After-search·gave : (c : After-search) → s11 .gives (m8 (c .before .before) (c .before .search-arg3 .given))
-      After-search·gave = λ c. Called.given ps·0 r·0 (claims· .1) T12 (
+      abbrev pub After-search-goal·gave : (c : After-search-goal) → s11 .gives (m8 (c .before .before) (c .before .search-goal-arg3
+          .given))
+      After-search-goal·gave = λ c. Called.given ps·0 r·0 (claims· .1) T12 (
         record
             { pos = 14; ty = Syntax.tyRef Syntax.erased Syntax.mut y3; ref = λ x. x },
         (
@@ -3768,33 +3771,35 @@ module _ (claims· : Claims) where
           ),
         ),
       ) (m8 (c
-          .before .before) (c .before .search-arg3 .given)) (c .search)
+          .before .before) (c .before .search-goal-arg3 .given)) (c .search-goal)
 
-      abbrev W1 : (before : After-search-arg3) → (given : s11 .gives (m8 (before .before) (before .search-arg3 .given))) → Typed.Want O1
+      abbrev W1 : (before : After-search-goal-arg3) → (given : s11 .gives (m8 (before .before) (before .search-goal-arg3 .given))) →
+          Typed.Want O1
       W1 = λ before given. Typed.wantNext T14 O0 (at88 (W0 (before .before .before .before .before .before .κs) (before .before .before
           .before .before .before .args))) (W0 (before .before .before .before .before .before .κs) (before .before .before .before
           .before .before .args))
 
-      abbrev pub m10 : (before : After-search) → (given : s13 .gives (m9 (before .before) (After-search·gave before))) → Typed.Mo T16
-      m10 = λ before given. s13 .next (m9 (before .before) (After-search·gave before)) given
+      abbrev pub m10 : (before : After-search-goal) → (given : s13 .gives (m9 (before .before) (After-search-goal·gave before))) →
+          Typed.Mo T16
+      m10 = λ before given. s13 .next (m9 (before .before) (After-search-goal·gave before)) given
 
-      module _ (before· : After-search) where
-        pub record After-f·own : Type 0 where
-          pub given : s13 .gives (m9 (before· .before) (After-search·gave before·))
+      module _ (before· : After-search-goal) where
+        pub record After-words·own : Type 0 where
+          pub given : s13 .gives (m9 (before· .before) (After-search-goal·gave before·))
 
-      pub record After-f : Type 0 where
-        pub before : After-search
-        pub f : After-f·own before
+      pub record After-words : Type 0 where
+        pub before : After-search-goal
+        pub words : After-words·own before
 
-      abbrev pub m11 : (before : After-f) → (given : s14 .gives (m10 (before .before) (before .f .given))) → Typed.Mo T17
-      m11 = λ before given. s14 .next (m10 (before .before) (before .f .given)) given
+      abbrev pub m11 : (before : After-words) → (given : s14 .gives (m10 (before .before) (before .words .given))) → Typed.Mo T17
+      m11 = λ before given. s14 .next (m10 (before .before) (before .words .given)) given
 
-      module _ (before· : After-f) where
+      module _ (before· : After-words) where
         pub record After-slice-known3·own : Type 0 where
-          pub given : s14 .gives (m10 (before· .before) (before· .f .given))
+          pub given : s14 .gives (m10 (before· .before) (before· .words .given))
 
       pub record After-slice-known3 : Type 0 where
-        pub before : After-f
+        pub before : After-words
         pub slice-known3 : After-slice-known3·own before
 
       abbrev pub m12 : (before : After-slice-known3) → (given : s17 .gives (m11 (before .before) (before .slice-known3 .given))) →
@@ -3802,22 +3807,22 @@ module _ (claims· : Claims) where
       m12 = λ before given. s17 .next (m11 (before .before) (before .slice-known3 .given)) given
 
       module _ (before· : After-slice-known3) where
-        pub record After-t·own : Type 0 where
+        pub record After-terms·own : Type 0 where
           pub given : s17 .gives (m11 (before· .before) (before· .slice-known3 .given))
 
-      pub record After-t : Type 0 where
+      pub record After-terms : Type 0 where
         pub before : After-slice-known3
-        pub t : After-t·own before
+        pub terms : After-terms·own before
 
-      abbrev pub m13 : (before : After-t) → (given : s18 .gives (m12 (before .before) (before .t .given))) → Typed.Mo T21
-      m13 = λ before given. s18 .next (m12 (before .before) (before .t .given)) given
+      abbrev pub m13 : (before : After-terms) → (given : s18 .gives (m12 (before .before) (before .terms .given))) → Typed.Mo T21
+      m13 = λ before given. s18 .next (m12 (before .before) (before .terms .given)) given
 
-      module _ (before· : After-t) where
+      module _ (before· : After-terms) where
         pub record After-slice-known4·own : Type 0 where
-          pub given : s18 .gives (m12 (before· .before) (before· .t .given))
+          pub given : s18 .gives (m12 (before· .before) (before· .terms .given))
 
       pub record After-slice-known4 : Type 0 where
-        pub before : After-t
+        pub before : After-terms
         pub slice-known4 : After-slice-known4·own before
 
       abbrev pub m14 : (before : After-slice-known4) → (given : s21 .gives (m13 (before .before) (before .slice-known4 .given))) →
@@ -3825,36 +3830,36 @@ module _ (claims· : Claims) where
       m14 = λ before given. s21 .next (m13 (before .before) (before .slice-known4 .given)) given
 
       module _ (before· : After-slice-known4) where
-        pub record After-w·own : Type 0 where
+        pub record After-work·own : Type 0 where
           pub given : s21 .gives (m13 (before· .before) (before· .slice-known4 .given))
 
-      pub record After-w : Type 0 where
+      pub record After-work : Type 0 where
         pub before : After-slice-known4
-        pub w : After-w·own before
+        pub work : After-work·own before
 
-      module _ (before· : After-w) where
+      module _ (before· : After-work) where
         pub record At-match-keys1·own : Type 0 where
-          pub keys1 : Run.OneOf (0 ∷ []) (Declared.tagOf Outcome.the-type (Row.get 12 (T24 .locals) (m14 (before· .before) (before· .w
-              .given))))
+          pub keys1 : Run.OneOf (0 ∷ []) (Declared.tagOf Outcome.the-type (Row.get 12 (T24 .locals) (m14 (before· .before) (before·
+              .work .given))))
 
       pub record At-match-keys1 : Type 0 where
-        pub before : After-w
+        pub before : After-work
         pub match : At-match-keys1·own before
 
       abbrev pub Need-enum-told : Type 0
-      Need-enum-told = (c : At-match-keys1) → s23 .asks (m14 (c .before .before) (c .before .w .given))
+      Need-enum-told = (c : At-match-keys1) → s23 .asks (m14 (c .before .before) (c .before .work .given))
 
-      abbrev pub m15 : (before : At-match-keys1) → (given : s23 .gives (m14 (before .before .before) (before .before .w .given))) →
+      abbrev pub m15 : (before : At-match-keys1) → (given : s23 .gives (m14 (before .before .before) (before .before .work .given))) →
           Typed.Mo T26
-      m15 = λ before given. s23 .next (m14 (before .before .before) (before .before .w .given)) given
+      m15 = λ before given. s23 .next (m14 (before .before .before) (before .before .work .given)) given
 
-      abbrev pub m16 : (before : At-match-keys1) → (given : s23 .gives (m14 (before .before .before) (before .before .w .given))) →
+      abbrev pub m16 : (before : At-match-keys1) → (given : s23 .gives (m14 (before .before .before) (before .before .work .given))) →
           Typed.Mo T27
       m16 = λ before given. s24 (m15 before given)
 
       module _ (before· : At-match-keys1) where
         pub record After-enum-told·own : Type 0 where
-          pub given : s23 .gives (m14 (before· .before .before) (before· .before .w .given))
+          pub given : s23 .gives (m14 (before· .before .before) (before· .before .work .given))
 
       pub record After-enum-told : Type 0 where
         pub before : At-match-keys1
@@ -3928,22 +3933,22 @@ module _ (claims· : Claims) where
       m23 = λ before given. s34 .next (m22 (before .before) (After-clean·gave before)) given
 
       module _ (before· : After-clean) where
-        pub record After-f2·own : Type 0 where
+        pub record After-words2·own : Type 0 where
           pub given : s34 .gives (m22 (before· .before) (After-clean·gave before·))
 
-      pub record After-f2 : Type 0 where
+      pub record After-words2 : Type 0 where
         pub before : After-clean
-        pub f2 : After-f2·own before
+        pub words2 : After-words2·own before
 
-      abbrev pub m24 : (before : After-f2) → (given : s35 .gives (m23 (before .before) (before .f2 .given))) → Typed.Mo T38
-      m24 = λ before given. s35 .next (m23 (before .before) (before .f2 .given)) given
+      abbrev pub m24 : (before : After-words2) → (given : s35 .gives (m23 (before .before) (before .words2 .given))) → Typed.Mo T38
+      m24 = λ before given. s35 .next (m23 (before .before) (before .words2 .given)) given
 
-      module _ (before· : After-f2) where
+      module _ (before· : After-words2) where
         pub record After-slice-known5·own : Type 0 where
-          pub given : s35 .gives (m23 (before· .before) (before· .f2 .given))
+          pub given : s35 .gives (m23 (before· .before) (before· .words2 .given))
 
       pub record After-slice-known5 : Type 0 where
-        pub before : After-f2
+        pub before : After-words2
         pub slice-known5 : After-slice-known5·own before
 
       abbrev pub m25 : (before : After-slice-known5) → (given : s38 .gives (m24 (before .before) (before .slice-known5 .given))) →
@@ -3951,50 +3956,50 @@ module _ (claims· : Claims) where
       m25 = λ before given. s38 .next (m24 (before .before) (before .slice-known5 .given)) given
 
       module _ (before· : After-slice-known5) where
-        pub record After-t2·own : Type 0 where
+        pub record After-terms2·own : Type 0 where
           pub given : s38 .gives (m24 (before· .before) (before· .slice-known5 .given))
 
-      pub record After-t2 : Type 0 where
+      pub record After-terms2 : Type 0 where
         pub before : After-slice-known5
-        pub t2 : After-t2·own before
+        pub terms2 : After-terms2·own before
 
-      abbrev pub m26 : (before : After-t2) → (given : s39 .gives (m25 (before .before) (before .t2 .given))) → Typed.Mo T42
-      m26 = λ before given. s39 .next (m25 (before .before) (before .t2 .given)) given
+      abbrev pub m26 : (before : After-terms2) → (given : s39 .gives (m25 (before .before) (before .terms2 .given))) → Typed.Mo T42
+      m26 = λ before given. s39 .next (m25 (before .before) (before .terms2 .given)) given
 
-      abbrev pub m27 : (before : After-t2) → (given : s39 .gives (m25 (before .before) (before .t2 .given))) → Typed.Mo T44
+      abbrev pub m27 : (before : After-terms2) → (given : s39 .gives (m25 (before .before) (before .terms2 .given))) → Typed.Mo T44
       m27 = λ before given. s41 (m26 before given)
 
-      module _ (before· : After-t2) where
+      module _ (before· : After-terms2) where
         pub record After-slice-known6·own : Type 0 where
-          pub given : s39 .gives (m25 (before· .before) (before· .t2 .given))
+          pub given : s39 .gives (m25 (before· .before) (before· .terms2 .given))
 
       pub record After-slice-known6 : Type 0 where
-        pub before : After-t2
+        pub before : After-terms2
         pub slice-known6 : After-slice-known6·own before
 
-      module _ (before· : After-w) where
+      module _ (before· : After-work) where
         pub record At-match-keys2·own : Type 0 where
-          pub keys2 : Run.OneOf (1 ∷ []) (Declared.tagOf Outcome.the-type (Row.get 12 (T24 .locals) (m14 (before· .before) (before· .w
-              .given))))
+          pub keys2 : Run.OneOf (1 ∷ []) (Declared.tagOf Outcome.the-type (Row.get 12 (T24 .locals) (m14 (before· .before) (before·
+              .work .given))))
 
       pub record At-match-keys2 : Type 0 where
-        pub before : After-w
+        pub before : After-work
         pub match : At-match-keys2·own before
 
       abbrev pub Need-enum-told-2 : Type 0
-      Need-enum-told-2 = (c : At-match-keys2) → s42 .asks (m14 (c .before .before) (c .before .w .given))
+      Need-enum-told-2 = (c : At-match-keys2) → s42 .asks (m14 (c .before .before) (c .before .work .given))
 
-      abbrev pub m28 : (before : At-match-keys2) → (given : s42 .gives (m14 (before .before .before) (before .before .w .given))) →
+      abbrev pub m28 : (before : At-match-keys2) → (given : s42 .gives (m14 (before .before .before) (before .before .work .given))) →
           Typed.Mo T45
-      m28 = λ before given. s42 .next (m14 (before .before .before) (before .before .w .given)) given
+      m28 = λ before given. s42 .next (m14 (before .before .before) (before .before .work .given)) given
 
-      abbrev pub m29 : (before : At-match-keys2) → (given : s42 .gives (m14 (before .before .before) (before .before .w .given))) →
+      abbrev pub m29 : (before : At-match-keys2) → (given : s42 .gives (m14 (before .before .before) (before .before .work .given))) →
           Typed.Mo T46
       m29 = λ before given. s43 (m28 before given)
 
       module _ (before· : At-match-keys2) where
         pub record After-enum-told2·own : Type 0 where
-          pub given : s42 .gives (m14 (before· .before .before) (before· .before .w .given))
+          pub given : s42 .gives (m14 (before· .before .before) (before· .before .work .given))
 
       pub record After-enum-told2 : Type 0 where
         pub before : At-match-keys2
@@ -4109,22 +4114,22 @@ module _ (claims· : Claims) where
       m37 = λ before given. s55 .next (m36 (before .before) (After-unproved·gave before)) given
 
       module _ (before· : After-unproved) where
-        pub record After-f3·own : Type 0 where
+        pub record After-words3·own : Type 0 where
           pub given : s55 .gives (m36 (before· .before) (After-unproved·gave before·))
 
-      pub record After-f3 : Type 0 where
+      pub record After-words3 : Type 0 where
         pub before : After-unproved
-        pub f3 : After-f3·own before
+        pub words3 : After-words3·own before
 
-      abbrev pub m38 : (before : After-f3) → (given : s56 .gives (m37 (before .before) (before .f3 .given))) → Typed.Mo T59
-      m38 = λ before given. s56 .next (m37 (before .before) (before .f3 .given)) given
+      abbrev pub m38 : (before : After-words3) → (given : s56 .gives (m37 (before .before) (before .words3 .given))) → Typed.Mo T59
+      m38 = λ before given. s56 .next (m37 (before .before) (before .words3 .given)) given
 
-      module _ (before· : After-f3) where
+      module _ (before· : After-words3) where
         pub record After-slice-known7·own : Type 0 where
-          pub given : s56 .gives (m37 (before· .before) (before· .f3 .given))
+          pub given : s56 .gives (m37 (before· .before) (before· .words3 .given))
 
       pub record After-slice-known7 : Type 0 where
-        pub before : After-f3
+        pub before : After-words3
         pub slice-known7 : After-slice-known7·own before
 
       abbrev pub m39 : (before : After-slice-known7) → (given : s59 .gives (m38 (before .before) (before .slice-known7 .given))) →
@@ -4132,22 +4137,22 @@ module _ (claims· : Claims) where
       m39 = λ before given. s59 .next (m38 (before .before) (before .slice-known7 .given)) given
 
       module _ (before· : After-slice-known7) where
-        pub record After-t3·own : Type 0 where
+        pub record After-terms3·own : Type 0 where
           pub given : s59 .gives (m38 (before· .before) (before· .slice-known7 .given))
 
-      pub record After-t3 : Type 0 where
+      pub record After-terms3 : Type 0 where
         pub before : After-slice-known7
-        pub t3 : After-t3·own before
+        pub terms3 : After-terms3·own before
 
-      abbrev pub m40 : (before : After-t3) → (given : s60 .gives (m39 (before .before) (before .t3 .given))) → Typed.Mo T63
-      m40 = λ before given. s60 .next (m39 (before .before) (before .t3 .given)) given
+      abbrev pub m40 : (before : After-terms3) → (given : s60 .gives (m39 (before .before) (before .terms3 .given))) → Typed.Mo T63
+      m40 = λ before given. s60 .next (m39 (before .before) (before .terms3 .given)) given
 
-      module _ (before· : After-t3) where
+      module _ (before· : After-terms3) where
         pub record After-slice-known8·own : Type 0 where
-          pub given : s60 .gives (m39 (before· .before) (before· .t3 .given))
+          pub given : s60 .gives (m39 (before· .before) (before· .terms3 .given))
 
       pub record After-slice-known8 : Type 0 where
-        pub before : After-t3
+        pub before : After-terms3
         pub slice-known8 : After-slice-known8·own before
 
       abbrev pub m41 : (before : After-slice-known8) → (given : s63 .gives (m40 (before .before) (before .slice-known8 .given))) →
@@ -4155,25 +4160,25 @@ module _ (claims· : Claims) where
       m41 = λ before given. s63 .next (m40 (before .before) (before .slice-known8 .given)) given
 
       module _ (before· : After-slice-known8) where
-        pub record After-w2·own : Type 0 where
+        pub record After-work2·own : Type 0 where
           pub given : s63 .gives (m40 (before· .before) (before· .slice-known8 .given))
 
-      pub record After-w2 : Type 0 where
+      pub record After-work2 : Type 0 where
         pub before : After-slice-known8
-        pub w2 : After-w2·own before
+        pub work2 : After-work2·own before
 
-      abbrev pub m42 : (before : After-w2) → (given : s66 .gives (m41 (before .before) (before .w2 .given))) → Typed.Mo T69
-      m42 = λ before given. s66 .next (m41 (before .before) (before .w2 .given)) given
+      abbrev pub m42 : (before : After-work2) → (given : s66 .gives (m41 (before .before) (before .work2 .given))) → Typed.Mo T69
+      m42 = λ before given. s66 .next (m41 (before .before) (before .work2 .given)) given
 
-      abbrev pub m43 : (before : After-w2) → (given : s66 .gives (m41 (before .before) (before .w2 .given))) → Typed.Mo T70
+      abbrev pub m43 : (before : After-work2) → (given : s66 .gives (m41 (before .before) (before .work2 .given))) → Typed.Mo T70
       m43 = λ before given. s67 .next (m42 before given)
 
-      module _ (before· : After-w2) where
+      module _ (before· : After-work2) where
         pub record After-clean-arg3·own : Type 0 where
-          pub given : s66 .gives (m41 (before· .before) (before· .w2 .given))
+          pub given : s66 .gives (m41 (before· .before) (before· .work2 .given))
 
       pub record After-clean-arg3 : Type 0 where
-        pub before : After-w2
+        pub before : After-work2
         pub clean-arg3 : After-clean-arg3·own before
 
       abbrev pub m44 : (before : After-clean-arg3) → (given : s69 .gives (m43 (before .before) (before .clean-arg3 .given))) → Typed.Mo
@@ -4228,22 +4233,22 @@ module _ (claims· : Claims) where
       m48 = λ before given. s74 .next (m47 (before .before) (After-clean2·gave before)) given
 
       module _ (before· : After-clean2) where
-        pub record After-f4·own : Type 0 where
+        pub record After-words4·own : Type 0 where
           pub given : s74 .gives (m47 (before· .before) (After-clean2·gave before·))
 
-      pub record After-f4 : Type 0 where
+      pub record After-words4 : Type 0 where
         pub before : After-clean2
-        pub f4 : After-f4·own before
+        pub words4 : After-words4·own before
 
-      abbrev pub m49 : (before : After-f4) → (given : s75 .gives (m48 (before .before) (before .f4 .given))) → Typed.Mo T78
-      m49 = λ before given. s75 .next (m48 (before .before) (before .f4 .given)) given
+      abbrev pub m49 : (before : After-words4) → (given : s75 .gives (m48 (before .before) (before .words4 .given))) → Typed.Mo T78
+      m49 = λ before given. s75 .next (m48 (before .before) (before .words4 .given)) given
 
-      module _ (before· : After-f4) where
+      module _ (before· : After-words4) where
         pub record After-slice-known9·own : Type 0 where
-          pub given : s75 .gives (m48 (before· .before) (before· .f4 .given))
+          pub given : s75 .gives (m48 (before· .before) (before· .words4 .given))
 
       pub record After-slice-known9 : Type 0 where
-        pub before : After-f4
+        pub before : After-words4
         pub slice-known9 : After-slice-known9·own before
 
       abbrev pub m50 : (before : After-slice-known9) → (given : s78 .gives (m49 (before .before) (before .slice-known9 .given))) →
@@ -4251,49 +4256,49 @@ module _ (claims· : Claims) where
       m50 = λ before given. s78 .next (m49 (before .before) (before .slice-known9 .given)) given
 
       module _ (before· : After-slice-known9) where
-        pub record After-t4·own : Type 0 where
+        pub record After-terms4·own : Type 0 where
           pub given : s78 .gives (m49 (before· .before) (before· .slice-known9 .given))
 
-      pub record After-t4 : Type 0 where
+      pub record After-terms4 : Type 0 where
         pub before : After-slice-known9
-        pub t4 : After-t4·own before
+        pub terms4 : After-terms4·own before
 
-      abbrev pub m51 : (before : After-t4) → (given : s79 .gives (m50 (before .before) (before .t4 .given))) → Typed.Mo T82
-      m51 = λ before given. s79 .next (m50 (before .before) (before .t4 .given)) given
+      abbrev pub m51 : (before : After-terms4) → (given : s79 .gives (m50 (before .before) (before .terms4 .given))) → Typed.Mo T82
+      m51 = λ before given. s79 .next (m50 (before .before) (before .terms4 .given)) given
 
-      abbrev pub m52 : (before : After-t4) → (given : s79 .gives (m50 (before .before) (before .t4 .given))) → Typed.Mo T84
+      abbrev pub m52 : (before : After-terms4) → (given : s79 .gives (m50 (before .before) (before .terms4 .given))) → Typed.Mo T84
       m52 = λ before given. s81 (m51 before given)
 
-      abbrev pub m53 : (before : After-t4) → (given : s79 .gives (m50 (before .before) (before .t4 .given))) → Typed.Mo T85
+      abbrev pub m53 : (before : After-terms4) → (given : s79 .gives (m50 (before .before) (before .terms4 .given))) → Typed.Mo T85
       m53 = λ before given. s82 (m52 before given)
 
-      module _ (before· : After-t4) where
+      module _ (before· : After-terms4) where
         pub record After-slice-known10·own : Type 0 where
-          pub given : s79 .gives (m50 (before· .before) (before· .t4 .given))
+          pub given : s79 .gives (m50 (before· .before) (before· .terms4 .given))
 
       pub record After-slice-known10 : Type 0 where
-        pub before : After-t4
+        pub before : After-terms4
         pub slice-known10 : After-slice-known10·own before
 
-      module _ (before· : After-w) where
+      module _ (before· : After-work) where
         pub record At-match-keys3·own : Type 0 where
-          pub keys3 : Run.OneOf (2 ∷ []) (Declared.tagOf Outcome.the-type (Row.get 12 (T24 .locals) (m14 (before· .before) (before· .w
-              .given))))
+          pub keys3 : Run.OneOf (2 ∷ []) (Declared.tagOf Outcome.the-type (Row.get 12 (T24 .locals) (m14 (before· .before) (before·
+              .work .given))))
 
       pub record At-match-keys3 : Type 0 where
-        pub before : After-w
+        pub before : After-work
         pub match : At-match-keys3·own before
 
       abbrev pub Need-enum-known-number : Type 0
-      Need-enum-known-number = (c : At-match-keys3) → s83 .asks (m14 (c .before .before) (c .before .w .given))
+      Need-enum-known-number = (c : At-match-keys3) → s83 .asks (m14 (c .before .before) (c .before .work .given))
 
-      abbrev pub m54 : (before : At-match-keys3) → (given : s83 .gives (m14 (before .before .before) (before .before .w .given))) →
+      abbrev pub m54 : (before : At-match-keys3) → (given : s83 .gives (m14 (before .before .before) (before .before .work .given))) →
           Typed.Mo T86
-      m54 = λ before given. s83 .next (m14 (before .before .before) (before .before .w .given)) given
+      m54 = λ before given. s83 .next (m14 (before .before .before) (before .before .work .given)) given
 
       module _ (before· : At-match-keys3) where
         pub record After-number·own : Type 0 where
-          pub given : s83 .gives (m14 (before· .before .before) (before· .before .w .given))
+          pub given : s83 .gives (m14 (before· .before .before) (before· .before .work .given))
 
       pub record After-number : Type 0 where
         pub before : At-match-keys3
@@ -4328,25 +4333,25 @@ module _ (claims· : Claims) where
         pub before : After-number
         pub known-told : After-known-told·own before
 
-      module _ (before· : After-w) where
+      module _ (before· : After-work) where
         pub record At-match-keys4·own : Type 0 where
-          pub keys4 : Run.OneOf (3 ∷ []) (Declared.tagOf Outcome.the-type (Row.get 12 (T24 .locals) (m14 (before· .before) (before· .w
-              .given))))
+          pub keys4 : Run.OneOf (3 ∷ []) (Declared.tagOf Outcome.the-type (Row.get 12 (T24 .locals) (m14 (before· .before) (before·
+              .work .given))))
 
       pub record At-match-keys4 : Type 0 where
-        pub before : After-w
+        pub before : After-work
         pub match : At-match-keys4·own before
 
       abbrev pub Need-enum-known-number-2 : Type 0
-      Need-enum-known-number-2 = (c : At-match-keys4) → s91 .asks (m14 (c .before .before) (c .before .w .given))
+      Need-enum-known-number-2 = (c : At-match-keys4) → s91 .asks (m14 (c .before .before) (c .before .work .given))
 
-      abbrev pub m62 : (before : At-match-keys4) → (given : s91 .gives (m14 (before .before .before) (before .before .w .given))) →
+      abbrev pub m62 : (before : At-match-keys4) → (given : s91 .gives (m14 (before .before .before) (before .before .work .given))) →
           Typed.Mo T94
-      m62 = λ before given. s91 .next (m14 (before .before .before) (before .before .w .given)) given
+      m62 = λ before given. s91 .next (m14 (before .before .before) (before .before .work .given)) given
 
       module _ (before· : At-match-keys4) where
         pub record After-number2·own : Type 0 where
-          pub given : s91 .gives (m14 (before· .before .before) (before· .before .w .given))
+          pub given : s91 .gives (m14 (before· .before .before) (before· .before .work .given))
 
       pub record After-number2 : Type 0 where
         pub before : At-match-keys4
@@ -4381,19 +4386,19 @@ module _ (claims· : Claims) where
         pub before : After-number2
         pub known-told2 : After-known-told2·own before
 
-      abbrev pub m70 : (before : After-t2) → (given : s39 .gives (m25 (before .before) (before .t2 .given))) → Typed.Mo T102
+      abbrev pub m70 : (before : After-terms2) → (given : s39 .gives (m25 (before .before) (before .terms2 .given))) → Typed.Mo T102
       m70 = λ before given. s99 (m27 before given)
 
-      abbrev pub m71 : (before : After-t2) → (given : s39 .gives (m25 (before .before) (before .t2 .given))) → Typed.Mo T103
+      abbrev pub m71 : (before : After-terms2) → (given : s39 .gives (m25 (before .before) (before .terms2 .given))) → Typed.Mo T103
       m71 = λ before given. s100 (m70 before given)
 
-      abbrev pub m72 : (before : After-t2) → (given : s39 .gives (m25 (before .before) (before .t2 .given))) → Typed.Mo T104
+      abbrev pub m72 : (before : After-terms2) → (given : s39 .gives (m25 (before .before) (before .terms2 .given))) → Typed.Mo T104
       m72 = λ before given. s101 (m71 before given)
 
-      abbrev pub m73 : (before : After-t2) → (given : s39 .gives (m25 (before .before) (before .t2 .given))) → Typed.Mo T105
+      abbrev pub m73 : (before : After-terms2) → (given : s39 .gives (m25 (before .before) (before .terms2 .given))) → Typed.Mo T105
       m73 = λ before given. s102 (m72 before given)
 
-      abbrev pub m74 : (before : After-t2) → (given : s39 .gives (m25 (before .before) (before .t2 .given))) → Typed.Mo T106
+      abbrev pub m74 : (before : After-terms2) → (given : s39 .gives (m25 (before .before) (before .terms2 .given))) → Typed.Mo T106
       m74 = λ before given. s103 (m73 before given)
 
       abbrev pub Need-same-length : Type 0
@@ -4432,19 +4437,19 @@ module _ (claims· : Claims) where
           .before .before .before .before .before .before .before .before .before .before .before .before .before .before .before
           .before .before .before .args)) (m74 (c .before) (c .slice-known6 .given) .1)))
 
-      abbrev pub m75 : (before : After-t4) → (given : s79 .gives (m50 (before .before) (before .t4 .given))) → Typed.Mo T102
+      abbrev pub m75 : (before : After-terms4) → (given : s79 .gives (m50 (before .before) (before .terms4 .given))) → Typed.Mo T102
       m75 = λ before given. s99 (m53 before given)
 
-      abbrev pub m76 : (before : After-t4) → (given : s79 .gives (m50 (before .before) (before .t4 .given))) → Typed.Mo T103
+      abbrev pub m76 : (before : After-terms4) → (given : s79 .gives (m50 (before .before) (before .terms4 .given))) → Typed.Mo T103
       m76 = λ before given. s100 (m75 before given)
 
-      abbrev pub m77 : (before : After-t4) → (given : s79 .gives (m50 (before .before) (before .t4 .given))) → Typed.Mo T104
+      abbrev pub m77 : (before : After-terms4) → (given : s79 .gives (m50 (before .before) (before .terms4 .given))) → Typed.Mo T104
       m77 = λ before given. s101 (m76 before given)
 
-      abbrev pub m78 : (before : After-t4) → (given : s79 .gives (m50 (before .before) (before .t4 .given))) → Typed.Mo T105
+      abbrev pub m78 : (before : After-terms4) → (given : s79 .gives (m50 (before .before) (before .terms4 .given))) → Typed.Mo T105
       m78 = λ before given. s102 (m77 before given)
 
-      abbrev pub m79 : (before : After-t4) → (given : s79 .gives (m50 (before .before) (before .t4 .given))) → Typed.Mo T106
+      abbrev pub m79 : (before : After-terms4) → (given : s79 .gives (m50 (before .before) (before .terms4 .given))) → Typed.Mo T106
       m79 = λ before given. s103 (m78 before given)
 
       abbrev pub Need-same-length-4 : Type 0
@@ -4588,14 +4593,14 @@ module _ (claims· : Claims) where
           .before .before .before .before .before .κs) (c .before .before .before .before .before .before .before .before .before
           .before .before .before .before .before .args)) (m89 (c .before) (c .known-told2 .given) .1)))
 
-      module _ (search-requires : Need-search-requires) (enum-told : Need-enum-told) (clean-requires : Need-clean-requires) (enum-told-2
-          : Need-enum-told-2) (unproved-requires : Need-unproved-requires) (clean-requires-2 : Need-clean-requires-2) (enum-known-number
-          : Need-enum-known-number) (enum-known-number-2 : Need-enum-known-number-2) (same-length : Need-same-length) (same-length-2 :
-          Need-same-length-2) (same-length-3 : Need-same-length-3) (returns : Need-returns) (same-length-4 : Need-same-length-4)
-          (same-length-5 : Need-same-length-5) (same-length-6 : Need-same-length-6) (returns-2 : Need-returns-2) (same-length-7 :
-          Need-same-length-7) (same-length-8 : Need-same-length-8) (same-length-9 : Need-same-length-9) (returns-3 : Need-returns-3)
-          (same-length-10 : Need-same-length-10) (same-length-11 : Need-same-length-11) (same-length-12 : Need-same-length-12)
-          (returns-4 : Need-returns-4) where
+      module _ (search-goal-requires : Need-search-goal-requires) (enum-told : Need-enum-told) (clean-requires : Need-clean-requires)
+          (enum-told-2 : Need-enum-told-2) (unproved-requires : Need-unproved-requires) (clean-requires-2 : Need-clean-requires-2)
+          (enum-known-number : Need-enum-known-number) (enum-known-number-2 : Need-enum-known-number-2) (same-length : Need-same-length)
+          (same-length-2 : Need-same-length-2) (same-length-3 : Need-same-length-3) (returns : Need-returns) (same-length-4 :
+          Need-same-length-4) (same-length-5 : Need-same-length-5) (same-length-6 : Need-same-length-6) (returns-2 : Need-returns-2)
+          (same-length-7 : Need-same-length-7) (same-length-8 : Need-same-length-8) (same-length-9 : Need-same-length-9) (returns-3 :
+          Need-returns-3) (same-length-10 : Need-same-length-10) (same-length-11 : Need-same-length-11) (same-length-12 :
+          Need-same-length-12) (returns-4 : Need-returns-4) where
         lay8 : (c : After-known-told2) → at88 (W0 (c .before .before .before .before .before .before .before .before .before .before
             .before .before .before .before .κs) (c .before .before .before .before .before .before .before .before .before .before
             .before .before .before .before .args)) (m69 (c .before) (c .known-told2 .given))
@@ -4758,7 +4763,7 @@ module _ (claims· : Claims) where
         )
 
         lay4 : (c : After-clean2) → at28 (W1 (c .before .before .before .before .before .before .before .before .before .before .before
-            .before .before .before .before .before .before .before .before .before) (After-search·gave (c .before .before .before
+            .before .before .before .before .before .before .before .before .before) (After-search-goal·gave (c .before .before .before
             .before .before .before .before .before .before .before .before .before .before .before .before .before .before .before
             .before))) (m46 (c .before) (After-clean2·gave c))
         lay4 = λ c. (
@@ -4769,11 +4774,11 @@ module _ (claims· : Claims) where
               before = record {
                 before = record {
                   before = record
-                      { before = record { before = c .before; clean2 = c .clean2 }; f4 = record { given = g } };
+                      { before = record { before = c .before; clean2 = c .clean2 }; words4 = record { given = g } };
                   slice-known9 = record
                       { given = g' };
                 };
-                t4 = record { given = g'' };
+                terms4 = record { given = g'' };
               };
               slice-known10 = record { given = g'3 };
             },
@@ -4781,7 +4786,7 @@ module _ (claims· : Claims) where
         )
 
         lay3 : (c : After-unproved) → at46 (W1 (c .before .before .before .before .before .before .before .before .before .before
-            .before .before) (After-search·gave (c .before .before .before .before .before .before .before .before .before .before
+            .before .before) (After-search-goal·gave (c .before .before .before .before .before .before .before .before .before .before
             .before))) (m36 (c .before) (After-unproved·gave c))
         lay3 = λ c. (
           Path'.refl,
@@ -4801,15 +4806,15 @@ module _ (claims· : Claims) where
                             before = record {
                               before = record {
                                 before
-                                    = record { before = record { before = c .before; unproved = c .unproved }; f3 = record { given = g } };
+                                    = record { before = record { before = c .before; unproved = c .unproved }; words3 = record { given = g } };
                                 slice-known7 =
                                     record { given = g' };
                               };
-                              t3 = record { given = g'' };
+                              terms3 = record { given = g'' };
                             };
                             slice-known8 = record { given = g'3 };
                           };
-                          w2 = record
+                          work2 = record
                               { given = g'4 };
                         };
                         clean-arg3 = record { given = g'5 };
@@ -4825,22 +4830,23 @@ module _ (claims· : Claims) where
                                   before = record {
                                     before = record {
                                       before = record
-                                          { before = record { before = c .before; unproved = c .unproved }; f3 = record { given = g } };
+                                          { before = record { before = c .before; unproved = c .unproved }; words3 = record { given = g } };
                                       slice-known7 = record
                                           { given = g' };
                                     };
-                                    t3 = record { given = g'' };
+                                    terms3 = record { given = g'' };
                                   };
                                   slice-known8 = record { given = g'3 };
                                 };
-                                w2 = record { given = g'4 };
+                                work2 = record
+                                    { given = g'4 };
                               };
                               clean-arg3 = record { given = g'5 };
                             };
                             clean-arg4 = record { given = g'6 };
                           };
-                      clean2 = Called.called ps·1 r·1 (claims· .3)
-                          T73 (
+                      clean2 = Called.called ps·1
+                          r·1 (claims· .3) T73 (
                             record { pos = 33; ty = Syntax.tyRef Syntax.erased Syntax.mut y3; ref = λ x. x },
                             (record { pos = 35; ty = Syntax.tyRef Syntax.erased Syntax.mut y6; ref = λ x. x }, (Num.vAt 2 λ x. x, tt)),
                           ) (m45 record {
@@ -4849,15 +4855,16 @@ module _ (claims· : Claims) where
                                 before = record {
                                   before = record {
                                     before = record
-                                        { before = record { before = c .before; unproved = c .unproved }; f3 = record { given = g } };
+                                        { before = record { before = c .before; unproved = c .unproved }; words3 = record { given = g } };
                                     slice-known7 = record
                                         { given = g' };
                                   };
-                                  t3 = record { given = g'' };
+                                  terms3 = record { given = g'' };
                                 };
                                 slice-known8 = record { given = g'3 };
                               };
-                              w2 = record { given = g'4 };
+                              work2 = record
+                                  { given = g'4 };
                             };
                             clean-arg3 = record { given = g'5 };
                           } g'6) g'7;
@@ -4870,8 +4877,8 @@ module _ (claims· : Claims) where
         )
 
         lay2 : (c : After-clean) → at9 (W1 (c .before .before .before .before .before .before .before .before .before .before .before)
-            (After-search·gave (c .before .before .before .before .before .before .before .before .before .before))) (m21 (c .before)
-            (After-clean·gave c))
+            (After-search-goal·gave (c .before .before .before .before .before .before .before .before .before .before))) (m21 (c
+            .before) (After-clean·gave c))
         lay2 = λ c. (
           Path'.refl,
           λ g. λ g'. (
@@ -4880,19 +4887,19 @@ module _ (claims· : Claims) where
               before = record {
                 before = record {
                   before = record
-                      { before = record { before = c .before; clean = c .clean }; f2 = record { given = g } };
+                      { before = record { before = c .before; clean = c .clean }; words2 = record { given = g } };
                   slice-known5 = record
                       { given = g' };
                 };
-                t2 = record { given = g'' };
+                terms2 = record { given = g'' };
               };
               slice-known6 = record { given = g'3 };
             },
           ),
         )
 
-        lay1 : (c : After-search) → at89 (W0 (c .before .before .before .before .before .before .κs) (c .before .before .before .before
-            .before .before .args)) (m9 (c .before) (After-search·gave c))
+        lay1 : (c : After-search-goal) → at89 (W0 (c .before .before .before .before .before .before .κs) (c .before .before .before
+            .before .before .before .args)) (m9 (c .before) (After-search-goal·gave c))
         lay1 = λ c. (
           Path'.refl,
           λ g. λ g'. (
@@ -4907,18 +4914,18 @@ module _ (claims· : Claims) where
                         before = record {
                           before = record {
                             before = record
-                                { before = record { before = c .before; search = c .search }; f = record { given = g } };
-                            slice-known3 = record
-                                { given = g' };
+                                { before = record { before = c .before; search-goal = c .search-goal }; words = record { given = g } };
+                            slice-known3 =
+                                record { given = g' };
                           };
-                          t = record { given = g'' };
+                          terms = record { given = g'' };
                         };
                         slice-known4 = record { given = g'3 };
                       };
-                      w = record { given = g'4 };
+                      work = record
+                          { given = g'4 };
                     };
-                    match
-                        = record { keys1 = k };
+                    match = record { keys1 = k };
                   },
                   λ g'5. λ g'6. (
                     Path'.refl,
@@ -4927,64 +4934,64 @@ module _ (claims· : Claims) where
                       (
                         clean-requires record {
                           before = record {
-                            before =
-                                record {
+                            before = record {
+                              before = record {
+                                before = record {
                                   before = record {
                                     before = record {
-                                      before = record {
-                                        before = record {
-                                          before = record {
+                                      before =
+                                          record {
                                             before = record
-                                                { before = record { before = c .before; search = c .search }; f = record { given = g } };
-                                            slice-known3 = record
-                                                { given = g' };
+                                                { before = record { before = c .before; search-goal = c .search-goal }; words = record { given = g } };
+                                            slice-known3 =
+                                                record { given = g' };
                                           };
-                                          t = record { given = g'' };
-                                        };
-                                        slice-known4 = record { given = g'3 };
-                                      };
-                                      w = record { given = g'4 };
+                                      terms = record { given = g'' };
                                     };
-                                    match
-                                        = record { keys1 = k };
+                                    slice-known4 = record { given = g'3 };
                                   };
-                                  enum-told = record { given = g'5 };
+                                  work = record
+                                      { given = g'4 };
                                 };
-                            clean-arg = record { given = g'6 };
+                                match = record { keys1 = k };
+                              };
+                              enum-told = record { given = g'5 };
+                            };
+                            clean-arg = record
+                                { given = g'6 };
                           };
-                          clean-arg2 = record
-                              { given = g'7 };
+                          clean-arg2 = record { given = g'7 };
                         },
                         λ g'8. lay2 record {
                           before = record {
                             before = record {
-                              before = record {
-                                before = record {
-                                  before =
-                                      record {
+                              before =
+                                  record {
+                                    before = record {
+                                      before = record {
                                         before = record {
                                           before = record {
                                             before = record {
                                               before = record
-                                                  { before = record { before = c .before; search = c .search }; f = record { given = g } };
-                                              slice-known3 = record
-                                                  { given = g' };
+                                                  { before = record { before = c .before; search-goal = c .search-goal }; words = record { given = g } };
+                                              slice-known3 =
+                                                  record { given = g' };
                                             };
-                                            t = record { given = g'' };
+                                            terms = record { given = g'' };
                                           };
                                           slice-known4 = record { given = g'3 };
                                         };
-                                        w = record { given = g'4 };
+                                        work = record
+                                            { given = g'4 };
                                       };
-                                  match
-                                      = record { keys1 = k };
-                                };
-                                enum-told = record { given = g'5 };
-                              };
-                              clean-arg = record { given = g'6 };
+                                      match = record { keys1 = k };
+                                    };
+                                    enum-told = record { given = g'5 };
+                                  };
+                              clean-arg = record
+                                  { given = g'6 };
                             };
-                            clean-arg2 = record
-                                { given = g'7 };
+                            clean-arg2 = record { given = g'7 };
                           };
                           clean = Called.called ps·1 r·1 (claims· .3) T33 (
                             record
@@ -4998,22 +5005,23 @@ module _ (claims· : Claims) where
                                     before = record {
                                       before = record {
                                         before =
-                                            record { before = record { before = c .before; search = c .search }; f = record { given = g } };
-                                        slice-known3 = record
-                                            { given = g' };
+                                            record { before = record { before = c .before; search-goal = c .search-goal }; words = record { given = g } };
+                                        slice-known3
+                                            = record { given = g' };
                                       };
-                                      t = record { given = g'' };
+                                      terms = record { given = g'' };
                                     };
                                     slice-known4 = record { given = g'3 };
                                   };
-                                  w = record { given = g'4 };
+                                  work = record
+                                      { given = g'4 };
                                 };
-                                match
-                                    = record { keys1 = k };
+                                match = record { keys1 = k };
                               };
                               enum-told = record { given = g'5 };
                             };
-                            clean-arg = record { given = g'6 };
+                            clean-arg = record
+                                { given = g'6 };
                           } g'7) g'8;
                         },
                       ),
@@ -5026,20 +5034,21 @@ module _ (claims· : Claims) where
                       before = record {
                         before = record {
                           before = record {
-                            before = record {
-                              before = record
-                                  { before = record { before = c .before; search = c .search }; f = record { given = g } };
-                              slice-known3 = record
-                                  { given = g' };
-                            };
-                            t = record { given = g'' };
+                            before =
+                                record {
+                                  before = record
+                                      { before = record { before = c .before; search-goal = c .search-goal }; words = record { given = g } };
+                                  slice-known3 =
+                                      record { given = g' };
+                                };
+                            terms = record { given = g'' };
                           };
                           slice-known4 = record { given = g'3 };
                         };
-                        w = record { given = g'4 };
+                        work = record
+                            { given = g'4 };
                       };
-                      match
-                          = record { keys2 = k };
+                      match = record { keys2 = k };
                     },
                     λ g'9. λ g'10. (
                       Path'.refl,
@@ -5054,53 +5063,55 @@ module _ (claims· : Claims) where
                                   before = record {
                                     before = record {
                                       before = record {
-                                        before = record {
-                                          before =
-                                              record {
+                                        before
+                                            = record {
+                                              before = record {
                                                 before = record {
                                                   before = record
-                                                      { before = record { before = c .before; search = c .search }; f = record { given = g } };
-                                                  slice-known3 = record
-                                                      { given = g' };
+                                                      { before = record { before = c .before; search-goal = c .search-goal }; words = record { given = g } };
+                                                  slice-known3 =
+                                                      record { given = g' };
                                                 };
-                                                t = record { given = g'' };
+                                                terms = record { given = g'' };
                                               };
-                                          slice-known4 = record { given = g'3 };
-                                        };
-                                        w = record { given = g'4 };
+                                              slice-known4 = record { given = g'3 };
+                                            };
+                                        work = record
+                                            { given = g'4 };
                                       };
-                                      match
-                                          = record { keys2 = k };
+                                      match = record { keys2 = k };
                                     };
                                     enum-told2 = record { given = g'9 };
                                   };
-                                  unproved-arg = record { given = g'10 };
+                                  unproved-arg = record
+                                      { given = g'10 };
                                 };
-                                unproved-arg2 =
-                                    record { given = g'11 };
+                                unproved-arg2 = record { given = g'11 };
                               };
                               unproved-arg3 = record { given = g'12 };
                             },
-                            λ g'13. lay3 record {
-                              before = record {
-                                before =
-                                    record {
+                            λ g'13. lay3
+                                record {
+                                  before = record {
+                                    before = record {
                                       before = record {
                                         before = record {
                                           before = record {
                                             before = record {
-                                              before = record {
-                                                before = record {
-                                                  before
-                                                      = record {
-                                                        before = record { before = record { before = c .before; search = c .search }; f = record { given = g } };
-                                                        slice-known3 = record { given = g' };
+                                              before
+                                                  = record {
+                                                    before = record {
+                                                      before = record {
+                                                        before = record
+                                                            { before = record { before = c .before; search-goal = c .search-goal }; words = record { given = g } };
+                                                        slice-known3 =
+                                                            record { given = g' };
                                                       };
-                                                  t = record { given = g'' };
-                                                };
-                                                slice-known4 = record { given = g'3 };
-                                              };
-                                              w = record
+                                                      terms = record { given = g'' };
+                                                    };
+                                                    slice-known4 = record { given = g'3 };
+                                                  };
+                                              work = record
                                                   { given = g'4 };
                                             };
                                             match = record { keys2 = k };
@@ -5112,52 +5123,52 @@ module _ (claims· : Claims) where
                                       };
                                       unproved-arg2 = record { given = g'11 };
                                     };
-                                unproved-arg3 = record { given = g'12 };
-                              };
-                              unproved =
-                                  Called.called ps·2 r·2 (claims· .5) T55 (
-                                    record { pos = 26; ty = Syntax.tyRef Syntax.erased Syntax.mut y3; ref = λ x. x },
-                                    (
-                                      Num.vAt 2 λ x. x,
-                                      (
-                                        Num.vAt 3 λ x. x,
+                                    unproved-arg3 = record { given = g'12 };
+                                  };
+                                  unproved =
+                                      Called.called ps·2 r·2 (claims· .5) T55 (
+                                        record { pos = 26; ty = Syntax.tyRef Syntax.erased Syntax.mut y3; ref = λ x. x },
                                         (
-                                          record { pos = 28; ty = Syntax.tyRef Syntax.erased Syntax.mut y6; ref = λ x. x },
-                                          (record { pos = 30; ty = Syntax.tyRef Syntax.erased Syntax.mut Element.named; ref = λ x. x }, (Num.vAt 6 λ x. x, tt)),
+                                          Num.vAt 2 λ x. x,
+                                          (
+                                            Num.vAt 3 λ x. x,
+                                            (
+                                              record { pos = 28; ty = Syntax.tyRef Syntax.erased Syntax.mut y6; ref = λ x. x },
+                                              (record { pos = 30; ty = Syntax.tyRef Syntax.erased Syntax.mut Element.named; ref = λ x. x }, (Num.vAt 6 λ x. x, tt)),
+                                            ),
+                                          ),
                                         ),
-                                      ),
-                                    ),
-                                  )
-                                  (m35 record {
-                                    before = record {
-                                      before = record {
+                                      )
+                                      (m35 record {
                                         before = record {
                                           before = record {
                                             before = record {
                                               before = record {
                                                 before = record {
-                                                  before = record
-                                                      { before = record { before = c .before; search = c .search }; f = record { given = g } };
-                                                  slice-known3 = record
-                                                      { given = g' };
+                                                  before = record {
+                                                    before = record {
+                                                      before = record
+                                                          { before = record { before = c .before; search-goal = c .search-goal }; words = record { given = g } };
+                                                      slice-known3 =
+                                                          record { given = g' };
+                                                    };
+                                                    terms = record { given = g'' };
+                                                  };
+                                                  slice-known4 = record { given = g'3 };
                                                 };
-                                                t = record { given = g'' };
+                                                work = record
+                                                    { given = g'4 };
                                               };
-                                              slice-known4 = record { given = g'3 };
+                                              match = record { keys2 = k };
                                             };
-                                            w = record { given = g'4 };
+                                            enum-told2 = record { given = g'9 };
                                           };
-                                          match
-                                              = record { keys2 = k };
+                                          unproved-arg = record
+                                              { given = g'10 };
                                         };
-                                        enum-told2 = record { given = g'9 };
-                                      };
-                                      unproved-arg = record { given = g'10 };
-                                    };
-                                    unproved-arg2 =
-                                        record { given = g'11 };
-                                  } g'12) g'13;
-                            },
+                                        unproved-arg2 = record { given = g'11 };
+                                      } g'12) g'13;
+                                },
                           ),
                         ),
                       ),
@@ -5166,50 +5177,51 @@ module _ (claims· : Claims) where
                   (
                     λ k. (
                       enum-known-number record {
-                        before = record {
-                          before = record {
-                            before =
-                                record {
+                        before =
+                            record {
+                              before = record {
+                                before = record {
                                   before = record {
                                     before = record
-                                        { before = record { before = c .before; search = c .search }; f = record { given = g } };
-                                    slice-known3 = record
-                                        { given = g' };
+                                        { before = record { before = c .before; search-goal = c .search-goal }; words = record { given = g } };
+                                    slice-known3 =
+                                        record { given = g' };
                                   };
-                                  t = record { given = g'' };
+                                  terms = record { given = g'' };
                                 };
-                            slice-known4 = record { given = g'3 };
-                          };
-                          w = record { given = g'4 };
-                        };
-                        match
-                            = record { keys3 = k };
+                                slice-known4 = record { given = g'3 };
+                              };
+                              work = record
+                                  { given = g'4 };
+                            };
+                        match = record { keys3 = k };
                       },
                       λ g'14. λ g'15. lay7 record {
                         before = record {
                           before = record {
-                            before = record {
-                              before =
-                                  record {
+                            before
+                                = record {
+                                  before = record {
                                     before = record {
                                       before = record {
                                         before = record
-                                            { before = record { before = c .before; search = c .search }; f = record { given = g } };
-                                        slice-known3 = record
-                                            { given = g' };
+                                            { before = record { before = c .before; search-goal = c .search-goal }; words = record { given = g } };
+                                        slice-known3 =
+                                            record { given = g' };
                                       };
-                                      t = record { given = g'' };
+                                      terms = record { given = g'' };
                                     };
                                     slice-known4 = record { given = g'3 };
                                   };
-                              w = record { given = g'4 };
-                            };
-                            match
-                                = record { keys3 = k };
+                                  work = record
+                                      { given = g'4 };
+                                };
+                            match = record { keys3 = k };
                           };
                           number = record { given = g'14 };
                         };
-                        known-told = record { given = g'15 };
+                        known-told = record
+                            { given = g'15 };
                       },
                     ),
                     (
@@ -5218,51 +5230,52 @@ module _ (claims· : Claims) where
                           before = record {
                             before = record {
                               before = record {
-                                before = record {
-                                  before = record
-                                      { before = record { before = c .before; search = c .search }; f = record { given = g } };
-                                  slice-known3 = record
-                                      { given = g' };
-                                };
-                                t = record { given = g'' };
+                                before =
+                                    record {
+                                      before = record
+                                          { before = record { before = c .before; search-goal = c .search-goal }; words = record { given = g } };
+                                      slice-known3 =
+                                          record { given = g' };
+                                    };
+                                terms = record { given = g'' };
                               };
                               slice-known4 = record { given = g'3 };
                             };
-                            w = record { given = g'4 };
+                            work = record
+                                { given = g'4 };
                           };
-                          match
-                              = record { keys4 = k };
+                          match = record { keys4 = k };
                         },
                         λ g'16. λ g'17. lay8 record {
                           before = record {
                             before = record {
-                              before = record {
-                                before =
-                                    record {
+                              before
+                                  = record {
+                                    before = record {
                                       before = record {
                                         before = record {
                                           before = record
-                                              { before = record { before = c .before; search = c .search }; f = record { given = g } };
-                                          slice-known3 = record
-                                              { given = g' };
+                                              { before = record { before = c .before; search-goal = c .search-goal }; words = record { given = g } };
+                                          slice-known3 =
+                                              record { given = g' };
                                         };
-                                        t = record { given = g'' };
+                                        terms = record { given = g'' };
                                       };
                                       slice-known4 = record { given = g'3 };
                                     };
-                                w = record { given = g'4 };
-                              };
-                              match
-                                  = record { keys4 = k };
+                                    work = record
+                                        { given = g'4 };
+                                  };
+                              match = record { keys4 = k };
                             };
                             number2 = record { given = g'16 };
                           };
-                          known-told2 = record { given = g'17 };
+                          known-told2 = record
+                              { given = g'17 };
                         },
                       ),
-                      Match.each-below 4
-                          (λ j. (((Unit {0} × (Run.OneOf (0 ∷ []) j → ⊥)) × (Run.OneOf (1 ∷ []) j → ⊥)) × (Run.OneOf (2 ∷ []) j → ⊥)) × (Run.OneOf
-                          (3 ∷ []) j → ⊥) → ⊥) (
+                      Match.each-below 4 (λ j. (((Unit {0} × (Run.OneOf (0 ∷ []) j → ⊥)) × (Run.OneOf (1 ∷ []) j → ⊥)) ×
+                          (Run.OneOf (2 ∷ []) j → ⊥)) × (Run.OneOf (3 ∷ []) j → ⊥) → ⊥) (
                             λ n. n .1 Path'.refl,
                             (λ n. n .0 .1 Path'.refl, (λ n. n .0 .0 .1 Path'.refl, (λ n. n .0 .0 .0 .1 Path'.refl, tt))),
                           ) (Declared.tagOf
@@ -5270,11 +5283,11 @@ module _ (claims· : Claims) where
                             before = record {
                               before = record {
                                 before = record
-                                    { before = record { before = c .before; search = c .search }; f = record { given = g } };
-                                slice-known3 = record
-                                    { given = g' };
+                                    { before = record { before = c .before; search-goal = c .search-goal }; words = record { given = g } };
+                                slice-known3 =
+                                    record { given = g' };
                               };
-                              t = record { given = g'' };
+                              terms = record { given = g'' };
                             };
                             slice-known4 = record { given = g'3 };
                           } g'4))) (Match.tag-small
@@ -5282,11 +5295,11 @@ module _ (claims· : Claims) where
                             before = record {
                               before = record {
                                 before = record
-                                    { before = record { before = c .before; search = c .search }; f = record { given = g } };
-                                slice-known3 = record
-                                    { given = g' };
+                                    { before = record { before = c .before; search-goal = c .search-goal }; words = record { given = g } };
+                                slice-known3 =
+                                    record { given = g' };
                               };
-                              t = record { given = g'' };
+                              terms = record { given = g'' };
                             };
                             slice-known4 = record { given = g'3 };
                           } g'4))),
@@ -5306,17 +5319,18 @@ module _ (claims· : Claims) where
             λ g'4. (
               Path'.refl,
               (
-                search-requires record {
-                  before = record {
-                    before = record {
-                      before = record
-                          { before = record { before = c; slice-known = record { given = g } }; slice-known2 = record { given = g' } };
-                      search-arg =
-                          record { given = g'' };
-                    };
-                    search-arg2 = record { given = g'3 };
-                  };
-                  search-arg3 = record { given = g'4 };
+                search-goal-requires record {
+                  before =
+                      record {
+                        before = record {
+                          before = record
+                              { before = record { before = c; slice-known = record { given = g } }; slice-known2 = record { given = g' } };
+                          search-goal-arg = record { given = g'' };
+                        };
+                        search-goal-arg2 = record { given = g'3 };
+                      };
+                  search-goal-arg3 = record
+                      { given = g'4 };
                 },
                 λ g'5. lay1 record {
                   before = record {
@@ -5324,36 +5338,39 @@ module _ (claims· : Claims) where
                       before = record {
                         before = record
                             { before = record { before = c; slice-known = record { given = g } }; slice-known2 = record { given = g' } };
-                        search-arg =
-                            record { given = g'' };
+                        search-goal-arg = record { given = g'' };
                       };
-                      search-arg2 = record { given = g'3 };
+                      search-goal-arg2 = record { given = g'3 };
                     };
-                    search-arg3 = record { given = g'4 };
+                    search-goal-arg3 = record
+                        { given = g'4 };
                   };
-                  search =
-                      Called.called ps·0 r·0 (claims· .1) T12 (
-                        record { pos = 14; ty = Syntax.tyRef Syntax.erased Syntax.mut y3; ref = λ x. x },
+                  search-goal = Called.called ps·0 r·0 (claims· .1) T12 (
+                    record
+                        { pos = 14; ty = Syntax.tyRef Syntax.erased Syntax.mut y3; ref = λ x. x },
+                    (
+                      Num.vAt 2 λ x. x,
+                      (
+                        Num.vAt 3 λ x. x,
                         (
-                          Num.vAt 2 λ x. x,
+                          record
+                              { pos = 16; ty = Syntax.tyRef Syntax.erased Syntax.mut y6; ref = λ x. x },
                           (
-                            Num.vAt 3 λ x. x,
-                            (
-                              record { pos = 16; ty = Syntax.tyRef Syntax.erased Syntax.mut y6; ref = λ x. x },
-                              (record { pos = 18; ty = Syntax.tyRef Syntax.erased Syntax.mut Element.named; ref = λ x. x }, (Num.vAt 6 λ x. x, tt)),
-                            ),
+                            record
+                                { pos = 18; ty = Syntax.tyRef Syntax.erased Syntax.mut Element.named; ref = λ x. x },
+                            (Num.vAt 6 λ x. x, tt),
                           ),
                         ),
-                      )
-                      (m8 record {
-                        before = record {
-                          before = record
-                              { before = record { before = c; slice-known = record { given = g } }; slice-known2 = record { given = g' } };
-                          search-arg =
-                              record { given = g'' };
-                        };
-                        search-arg2 = record { given = g'3 };
-                      } g'4) g'5;
+                      ),
+                    ),
+                  ) (m8 record {
+                    before = record {
+                      before = record
+                          { before = record { before = c; slice-known = record { given = g } }; slice-known2 = record { given = g' } };
+                      search-goal-arg = record { given = g'' };
+                    };
+                    search-goal-arg2 = record { given = g'3 };
+                  } g'4) g'5;
                 },
               ),
             ),
@@ -5366,12 +5383,12 @@ module _ (claims· : Claims) where
           asked = λ a good pre bs. laid record {
             κs = κs;
             args = record {
-              f = a .0;
+              words = a .0;
               count = a .1 .0;
               goal = a .1 .1 .0;
-              t = a .1 .1 .1
-                  .0;
-              w = a .1 .1 .1 .1 .0;
+              terms = a .1
+                  .1 .1 .0;
+              work = a .1 .1 .1 .1 .0;
               steps = a .1 .1 .1 .1 .1 .0;
             };
             good = good;
@@ -5386,7 +5403,7 @@ module _ (claims· : Claims) where
           }
 
         module _ {M : Type 1} (𝓤 : URA.URA M) (H : Wp.Heap 𝓤) (A : Atoms.Atoms 𝓤) (W : Kit.Given 𝓤 H A) (𝓣 : Wp.Tables 𝓤 H) (known0 :
-            Plain.Known 𝓤 H A W 𝓣 3 ps·0 r·0 (claims· .0) (claims· .1) "status::search") (known1 : Plain.Known 𝓤 H A W 𝓣 2 ps·1 r·1
+            Plain.Known 𝓤 H A W 𝓣 3 ps·0 r·0 (claims· .0) (claims· .1) "status::search_goal") (known1 : Plain.Known 𝓤 H A W 𝓣 2 ps·1 r·1
             (claims· .2) (claims· .3) "status::clean") (known2 : Plain.Known 𝓤 H A W 𝓣 3 ps·2 r·2 (claims· .4) (claims· .5)
             "status::unproved") where
           pub spec : Statement.Triple 𝓤 (Wp.WpFn 𝓤 H (𝓣 .C) (𝓣 .Λ) (Function.fnOf 3 ps r xs m hs body)) (Function.plainOf 𝓤 H A 3 ps r

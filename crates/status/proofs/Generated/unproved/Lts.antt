@@ -1509,15 +1509,15 @@ module _ (claims· : Claims) where
 
       module _ (κs : Lifetimes.Lfts 3) where
         pub record Args : Type 0 where
-          pub f : Kinds.Den {n = 3} κs (MutSlice.pMutS (Referent.rtF (Referent.fInt Syntax.w32)) 0 tt)
+          pub words : Kinds.Den {n = 3} κs (MutSlice.pMutS (Referent.rtF (Referent.fInt Syntax.w32)) 0 tt)
           pub count : Kinds.Den {n = 3} κs (Num.pNum Syntax.w64)
           pub goal : Kinds.Den {n = 3} κs (Num.pNum Syntax.w64)
-          pub t : Kinds.Den {n = 3} κs (MutSlice.pMutS (Referent.rtF (Referent.fInt Syntax.w16)) 1 tt)
-          pub w : Kinds.Den {n = 3} κs (MutSlice.pMutS Element.row 2 tt)
+          pub terms : Kinds.Den {n = 3} κs (MutSlice.pMutS (Referent.rtF (Referent.fInt Syntax.w16)) 1 tt)
+          pub work : Kinds.Den {n = 3} κs (MutSlice.pMutS Element.row 2 tt)
           pub steps : Kinds.Den {n = 3} κs (Num.pNum Syntax.w64)
 
         abbrev pub dens : (a : Args) → Kinds.Dens κs ps
-        dens = λ a. (a .f, (a .count, (a .goal, (a .t, (a .w, (a .steps, tt))))))
+        dens = λ a. (a .words, (a .count, (a .goal, (a .terms, (a .work, (a .steps, tt))))))
 
         module _ (args· : Args) where
           pub record Ranges : Type 0 where
@@ -1650,22 +1650,22 @@ module _ (claims· : Claims) where
       m10 = λ before given. s14 .next (m9 (before .before) (After-open-goal·gave before)) given
 
       module _ (before· : After-open-goal) where
-        pub record After-w·own : Type 0 where
+        pub record After-work·own : Type 0 where
           pub given : s14 .gives (m9 (before· .before) (After-open-goal·gave before·))
 
-      pub record After-w : Type 0 where
+      pub record After-work : Type 0 where
         pub before : After-open-goal
-        pub w : After-w·own before
+        pub work : After-work·own before
 
-      abbrev pub m11 : (before : After-w) → Typed.Mo T19
-      m11 = λ before. s16 (m10 (before .before) (before .w .given))
+      abbrev pub m11 : (before : After-work) → Typed.Mo T19
+      m11 = λ before. s16 (m10 (before .before) (before .work .given))
 
-      module _ (before· : After-w) where
+      module _ (before· : After-work) where
         pub record Then1·own : Type 0 where
-          pub taken : Path'._≡_ (Row.get 7 (T17 .locals) (m10 (before· .before) (before· .w .given))) Bool'.true
+          pub taken : Path'._≡_ (Row.get 7 (T17 .locals) (m10 (before· .before) (before· .work .given))) Bool'.true
 
       pub record Then1 : Type 0 where
-        pub before : After-w
+        pub before : After-work
         pub if1 : Then1·own before
 
       abbrev pub m12 : (before : Then1) → (given : s18 .gives (m11 (before .before))) → Typed.Mo T21
@@ -1776,22 +1776,22 @@ module _ (claims· : Claims) where
       m19 = λ before given. s28 .next (m18 (before .before) (After-search-negation·gave before)) given
 
       module _ (before· : After-search-negation) where
-        pub record After-f·own : Type 0 where
+        pub record After-words·own : Type 0 where
           pub given : s28 .gives (m18 (before· .before) (After-search-negation·gave before·))
 
-      pub record After-f : Type 0 where
+      pub record After-words : Type 0 where
         pub before : After-search-negation
-        pub f : After-f·own before
+        pub words : After-words·own before
 
-      abbrev pub m20 : (before : After-f) → (given : s29 .gives (m19 (before .before) (before .f .given))) → Typed.Mo T32
-      m20 = λ before given. s29 .next (m19 (before .before) (before .f .given)) given
+      abbrev pub m20 : (before : After-words) → (given : s29 .gives (m19 (before .before) (before .words .given))) → Typed.Mo T32
+      m20 = λ before given. s29 .next (m19 (before .before) (before .words .given)) given
 
-      module _ (before· : After-f) where
+      module _ (before· : After-words) where
         pub record After-slice-known3·own : Type 0 where
-          pub given : s29 .gives (m19 (before· .before) (before· .f .given))
+          pub given : s29 .gives (m19 (before· .before) (before· .words .given))
 
       pub record After-slice-known3 : Type 0 where
-        pub before : After-f
+        pub before : After-words
         pub slice-known3 : After-slice-known3·own before
 
       abbrev pub m21 : (before : After-slice-known3) → (given : s32 .gives (m20 (before .before) (before .slice-known3 .given))) →
@@ -1799,22 +1799,22 @@ module _ (claims· : Claims) where
       m21 = λ before given. s32 .next (m20 (before .before) (before .slice-known3 .given)) given
 
       module _ (before· : After-slice-known3) where
-        pub record After-t·own : Type 0 where
+        pub record After-terms·own : Type 0 where
           pub given : s32 .gives (m20 (before· .before) (before· .slice-known3 .given))
 
-      pub record After-t : Type 0 where
+      pub record After-terms : Type 0 where
         pub before : After-slice-known3
-        pub t : After-t·own before
+        pub terms : After-terms·own before
 
-      abbrev pub m22 : (before : After-t) → (given : s33 .gives (m21 (before .before) (before .t .given))) → Typed.Mo T36
-      m22 = λ before given. s33 .next (m21 (before .before) (before .t .given)) given
+      abbrev pub m22 : (before : After-terms) → (given : s33 .gives (m21 (before .before) (before .terms .given))) → Typed.Mo T36
+      m22 = λ before given. s33 .next (m21 (before .before) (before .terms .given)) given
 
-      module _ (before· : After-t) where
+      module _ (before· : After-terms) where
         pub record After-slice-known4·own : Type 0 where
-          pub given : s33 .gives (m21 (before· .before) (before· .t .given))
+          pub given : s33 .gives (m21 (before· .before) (before· .terms .given))
 
       pub record After-slice-known4 : Type 0 where
-        pub before : After-t
+        pub before : After-terms
         pub slice-known4 : After-slice-known4·own before
 
       abbrev pub m23 : (before : After-slice-known4) → (given : s36 .gives (m22 (before .before) (before .slice-known4 .given))) →
@@ -1834,67 +1834,67 @@ module _ (claims· : Claims) where
       m26 = λ before given. s40 (m25 before given)
 
       module _ (before· : After-slice-known4) where
-        pub record After-w2·own : Type 0 where
+        pub record After-work2·own : Type 0 where
           pub given : s36 .gives (m22 (before· .before) (before· .slice-known4 .given))
 
-      pub record After-w2 : Type 0 where
+      pub record After-work2 : Type 0 where
         pub before : After-slice-known4
-        pub w2 : After-w2·own before
+        pub work2 : After-work2·own before
 
       abbrev pub Need-same-length : Type 0
-      Need-same-length = (c : After-w2) → MutSlice.SameLen (Row.get 1 (T43 .locals) (m26 (c .before) (c .w2 .given))) (dens (c .before
-          .before .before .before .before .before .before .before .before .before .before .before .before .before .before .before .κs)
-          (c .before .before .before .before .before .before .before .before .before .before .before .before .before .before .before
-          .before .args) .0)
+      Need-same-length = (c : After-work2) → MutSlice.SameLen (Row.get 1 (T43 .locals) (m26 (c .before) (c .work2 .given))) (dens (c
+          .before .before .before .before .before .before .before .before .before .before .before .before .before .before .before
+          .before .κs) (c .before .before .before .before .before .before .before .before .before .before .before .before .before
+          .before .before .before .args) .0)
 
       abbrev pub Need-same-length-2 : Type 0
-      Need-same-length-2 = (c : After-w2) → MutSlice.SameLen (Row.get 4 (T43 .locals) (m26 (c .before) (c .w2 .given))) (dens (c .before
-          .before .before .before .before .before .before .before .before .before .before .before .before .before .before .before .κs)
-          (c .before .before .before .before .before .before .before .before .before .before .before .before .before .before .before
-          .before .args) .1 .1 .1 .0)
+      Need-same-length-2 = (c : After-work2) → MutSlice.SameLen (Row.get 4 (T43 .locals) (m26 (c .before) (c .work2 .given))) (dens (c
+          .before .before .before .before .before .before .before .before .before .before .before .before .before .before .before
+          .before .κs) (c .before .before .before .before .before .before .before .before .before .before .before .before .before
+          .before .before .before .args) .1 .1 .1 .0)
 
       abbrev pub Need-same-length-3 : Type 0
-      Need-same-length-3 = (c : After-w2) → MutSlice.SameLen (Row.get 5 (T43 .locals) (m26 (c .before) (c .w2 .given))) (dens (c .before
-          .before .before .before .before .before .before .before .before .before .before .before .before .before .before .before .κs)
-          (c .before .before .before .before .before .before .before .before .before .before .before .before .before .before .before
-          .before .args) .1 .1 .1 .1 .0)
+      Need-same-length-3 = (c : After-work2) → MutSlice.SameLen (Row.get 5 (T43 .locals) (m26 (c .before) (c .work2 .given))) (dens (c
+          .before .before .before .before .before .before .before .before .before .before .before .before .before .before .before
+          .before .κs) (c .before .before .before .before .before .before .before .before .before .before .before .before .before
+          .before .before .before .args) .1 .1 .1 .1 .0)
 
       abbrev pub Need-returns : Type 0
-      Need-returns = (c : After-w2) → Post· (c .before .before .before .before .before .before .before .before .before .before .before
-          .before .before .before .before .before .κs) (dens (c .before .before .before .before .before .before .before .before .before
-          .before .before .before .before .before .before .before .κs) (c .before .before .before .before .before .before .before
-          .before .before .before .before .before .before .before .before .before .args)) (Function.resV r (c .before .before .before
-          .before .before .before .before .before .before .before .before .before .before .before .before .before .κs) (m26 (c .before)
-          (c .w2 .given) .0)) (Clauses.atExit (Kinds.endedOf 3 ps r) (c .before .before .before .before .before .before .before .before
-          .before .before .before .before .before .before .before .before .κs) (dens (c .before .before .before .before .before .before
-          .before .before .before .before .before .before .before .before .before .before .κs) (c .before .before .before .before
-          .before .before .before .before .before .before .before .before .before .before .before .before .args)) (Enter.lastsP (c
-          .before .before .before .before .before .before .before .before .before .before .before .before .before .before .before
-          .before .κs) 1 ps xs (dens (c .before .before .before .before .before .before .before .before .before .before .before .before
-          .before .before .before .before .κs) (c .before .before .before .before .before .before .before .before .before .before
-          .before .before .before .before .before .before .args)) (m26 (c .before) (c .w2 .given) .1)))
+      Need-returns = (c : After-work2) → Post· (c .before .before .before .before .before .before .before .before .before .before
+          .before .before .before .before .before .before .κs) (dens (c .before .before .before .before .before .before .before .before
+          .before .before .before .before .before .before .before .before .κs) (c .before .before .before .before .before .before
+          .before .before .before .before .before .before .before .before .before .before .args)) (Function.resV r (c .before .before
+          .before .before .before .before .before .before .before .before .before .before .before .before .before .before .κs) (m26 (c
+          .before) (c .work2 .given) .0)) (Clauses.atExit (Kinds.endedOf 3 ps r) (c .before .before .before .before .before .before
+          .before .before .before .before .before .before .before .before .before .before .κs) (dens (c .before .before .before .before
+          .before .before .before .before .before .before .before .before .before .before .before .before .κs) (c .before .before
+          .before .before .before .before .before .before .before .before .before .before .before .before .before .before .args))
+          (Enter.lastsP (c .before .before .before .before .before .before .before .before .before .before .before .before .before
+          .before .before .before .κs) 1 ps xs (dens (c .before .before .before .before .before .before .before .before .before .before
+          .before .before .before .before .before .before .κs) (c .before .before .before .before .before .before .before .before
+          .before .before .before .before .before .before .before .before .args)) (m26 (c .before) (c .work2 .given) .1)))
 
-      abbrev pub m27 : (before : After-w) → Typed.Mo T44
-      m27 = λ before. s41 (m10 (before .before) (before .w .given))
+      abbrev pub m27 : (before : After-work) → Typed.Mo T44
+      m27 = λ before. s41 (m10 (before .before) (before .work .given))
 
-      module _ (before· : After-w) where
+      module _ (before· : After-work) where
         pub record Else1·own : Type 0 where
-          pub left : Path'._≡_ (Row.get 7 (T17 .locals) (m10 (before· .before) (before· .w .given))) Bool'.false
+          pub left : Path'._≡_ (Row.get 7 (T17 .locals) (m10 (before· .before) (before· .work .given))) Bool'.false
 
       pub record Else1 : Type 0 where
-        pub before : After-w
+        pub before : After-work
         pub if1 : Else1·own before
 
-      abbrev pub m28 : (before : After-w) → Typed.Mo T45
+      abbrev pub m28 : (before : After-work) → Typed.Mo T45
       m28 = λ before. s42 (m27 before)
 
-      abbrev pub m29 : (before : After-w) → Typed.Mo T46
+      abbrev pub m29 : (before : After-work) → Typed.Mo T46
       m29 = λ before. s43 (m28 before)
 
-      abbrev pub m30 : (before : After-w) → Typed.Mo T47
+      abbrev pub m30 : (before : After-work) → Typed.Mo T47
       m30 = λ before. s44 (m29 before)
 
-      abbrev pub m31 : (before : After-w) → Typed.Mo T48
+      abbrev pub m31 : (before : After-work) → Typed.Mo T48
       m31 = λ before. s45 (m30 before)
 
       abbrev pub Need-same-length-4 : Type 0
@@ -1961,54 +1961,53 @@ module _ (claims· : Claims) where
                         before = record {
                           before = record {
                             before = record
-                                { before = record { before = c .before; search-negation = c .search-negation }; f = record { given = g } };
-                            slice-known3 =
-                                record { given = g' };
+                                { before = record { before = c .before; search-negation = c .search-negation }; words = record { given = g } };
+                            slice-known3
+                                = record { given = g' };
                           };
-                          t = record { given = g'' };
+                          terms = record { given = g'' };
                         };
                         slice-known4 = record { given = g'3 };
-                      } g'4) .ptr) (Row.get 1 (T43
-                      .locals) (m26 record {
+                      } g'4) .ptr) (Row.get 1
+                      (T43 .locals) (m26 record {
                         before = record {
                           before = record {
                             before = record
-                                { before = record { before = c .before; search-negation = c .search-negation }; f = record { given = g } };
-                            slice-known3 =
-                                record { given = g' };
+                                { before = record { before = c .before; search-negation = c .search-negation }; words = record { given = g } };
+                            slice-known3
+                                = record { given = g' };
                           };
-                          t = record { given = g'' };
+                          terms = record { given = g'' };
                         };
                         slice-known4 = record { given = g'3 };
-                      } g'4) .name) (Row.get 1 (T43
-                      .locals) (m26 record {
+                      } g'4) .name) (Row.get 1
+                      (T43 .locals) (m26 record {
                         before = record {
                           before = record {
                             before = record
-                                { before = record { before = c .before; search-negation = c .search-negation }; f = record { given = g } };
-                            slice-known3 =
-                                record { given = g' };
+                                { before = record { before = c .before; search-negation = c .search-negation }; words = record { given = g } };
+                            slice-known3
+                                = record { given = g' };
                           };
-                          t = record { given = g'' };
+                          terms = record { given = g'' };
                         };
                         slice-known4 = record { given = g'3 };
-                      } g'4) .now) (dens (c .before
-                      .before .before .before .before .before .before .before .before .before .before .κs) (c .before .before .before .before
-                      .before .before .before .before .before .before .before .args) .0 .now) (same-length record {
+                      } g'4) .now) (dens (c
+                      .before .before .before .before .before .before .before .before .before .before .before .κs) (c .before .before .before
+                      .before .before .before .before .before .before .before .before .args) .0 .now) (same-length record {
                         before = record {
-                          before =
-                              record {
-                                before = record {
-                                  before = record
-                                      { before = record { before = c .before; search-negation = c .search-negation }; f = record { given = g } };
-                                  slice-known3 =
-                                      record { given = g' };
-                                };
-                                t = record { given = g'' };
-                              };
+                          before = record {
+                            before = record {
+                              before = record
+                                  { before = record { before = c .before; search-negation = c .search-negation }; words = record { given = g } };
+                              slice-known3
+                                  = record { given = g' };
+                            };
+                            terms = record { given = g'' };
+                          };
                           slice-known4 = record { given = g'3 };
                         };
-                        w2 = record
+                        work2 = record
                             { given = g'4 };
                       }),
                   (
@@ -2020,53 +2019,54 @@ module _ (claims· : Claims) where
                           before = record {
                             before = record {
                               before = record
-                                  { before = record { before = c .before; search-negation = c .search-negation }; f = record { given = g } };
-                              slice-known3 =
-                                  record { given = g' };
+                                  { before = record { before = c .before; search-negation = c .search-negation }; words = record { given = g } };
+                              slice-known3
+                                  = record { given = g' };
                             };
-                            t = record { given = g'' };
+                            terms = record { given = g'' };
                           };
                           slice-known4 = record { given = g'3 };
-                        } g'4) .ptr) (Row.get 4 (T43
-                            .locals) (m26 record {
+                        } g'4) .ptr) (Row.get 4
+                            (T43 .locals) (m26 record {
                               before = record {
                                 before = record {
                                   before = record
-                                      { before = record { before = c .before; search-negation = c .search-negation }; f = record { given = g } };
-                                  slice-known3 =
-                                      record { given = g' };
+                                      { before = record { before = c .before; search-negation = c .search-negation }; words = record { given = g } };
+                                  slice-known3
+                                      = record { given = g' };
                                 };
-                                t = record { given = g'' };
+                                terms = record { given = g'' };
                               };
                               slice-known4 = record { given = g'3 };
-                            } g'4) .name) (Row.get 4 (T43
-                            .locals) (m26 record {
+                            } g'4) .name) (Row.get 4
+                            (T43 .locals) (m26 record {
                               before = record {
                                 before = record {
                                   before = record
-                                      { before = record { before = c .before; search-negation = c .search-negation }; f = record { given = g } };
-                                  slice-known3 =
-                                      record { given = g' };
+                                      { before = record { before = c .before; search-negation = c .search-negation }; words = record { given = g } };
+                                  slice-known3
+                                      = record { given = g' };
                                 };
-                                t = record { given = g'' };
+                                terms = record { given = g'' };
                               };
                               slice-known4 = record { given = g'3 };
-                            } g'4) .now) (dens (c .before
-                            .before .before .before .before .before .before .before .before .before .before .κs) (c .before .before .before .before
-                            .before .before .before .before .before .before .before .args) .1 .1 .1 .0 .now) (same-length-2 record {
-                              before = record {
-                                before = record {
-                                  before = record {
-                                    before = record
-                                        { before = record { before = c .before; search-negation = c .search-negation }; f = record { given = g } };
-                                    slice-known3 =
-                                        record { given = g' };
+                            } g'4) .now) (dens (c
+                            .before .before .before .before .before .before .before .before .before .before .before .κs) (c .before .before .before
+                            .before .before .before .before .before .before .before .before .args) .1 .1 .1 .0 .now) (same-length-2 record {
+                              before =
+                                  record {
+                                    before = record {
+                                      before = record {
+                                        before = record
+                                            { before = record { before = c .before; search-negation = c .search-negation }; words = record { given = g } };
+                                        slice-known3
+                                            = record { given = g' };
+                                      };
+                                      terms = record { given = g'' };
+                                    };
+                                    slice-known4 = record { given = g'3 };
                                   };
-                                  t = record { given = g'' };
-                                };
-                                slice-known4 = record { given = g'3 };
-                              };
-                              w2 = record
+                              work2 = record
                                   { given = g'4 };
                             }),
                         (
@@ -2074,10 +2074,10 @@ module _ (claims· : Claims) where
                             before = record {
                               before = record {
                                 before =
-                                    record { before = record { before = c .before; search-negation = c .search-negation }; f = record { given = g } };
+                                    record { before = record { before = c .before; search-negation = c .search-negation }; words = record { given = g } };
                                 slice-known3 = record { given = g' };
                               };
-                              t = record { given = g'' };
+                              terms = record { given = g'' };
                             };
                             slice-known4 = record { given = g'3 };
                           } g'4) .ptr)
@@ -2085,41 +2085,42 @@ module _ (claims· : Claims) where
                                 before = record {
                                   before = record {
                                     before = record
-                                        { before = record { before = c .before; search-negation = c .search-negation }; f = record { given = g } };
-                                    slice-known3 =
-                                        record { given = g' };
+                                        { before = record { before = c .before; search-negation = c .search-negation }; words = record { given = g } };
+                                    slice-known3
+                                        = record { given = g' };
                                   };
-                                  t = record { given = g'' };
+                                  terms = record { given = g'' };
                                 };
                                 slice-known4 = record { given = g'3 };
-                              } g'4) .name) (Row.get 5 (T43
-                              .locals) (m26 record {
+                              } g'4) .name) (Row.get 5
+                              (T43 .locals) (m26 record {
                                 before = record {
                                   before = record {
                                     before = record
-                                        { before = record { before = c .before; search-negation = c .search-negation }; f = record { given = g } };
-                                    slice-known3 =
-                                        record { given = g' };
+                                        { before = record { before = c .before; search-negation = c .search-negation }; words = record { given = g } };
+                                    slice-known3
+                                        = record { given = g' };
                                   };
-                                  t = record { given = g'' };
+                                  terms = record { given = g'' };
                                 };
                                 slice-known4 = record { given = g'3 };
-                              } g'4) .now) (dens (c .before
-                              .before .before .before .before .before .before .before .before .before .before .κs) (c .before .before .before .before
-                              .before .before .before .before .before .before .before .args) .1 .1 .1 .1 .0 .now) (same-length-3 record {
-                                before = record {
-                                  before = record {
-                                    before = record {
-                                      before = record
-                                          { before = record { before = c .before; search-negation = c .search-negation }; f = record { given = g } };
-                                      slice-known3 =
-                                          record { given = g' };
+                              } g'4) .now) (dens (c
+                              .before .before .before .before .before .before .before .before .before .before .before .κs) (c .before .before .before
+                              .before .before .before .before .before .before .before .before .args) .1 .1 .1 .1 .0 .now) (same-length-3 record {
+                                before =
+                                    record {
+                                      before = record {
+                                        before = record {
+                                          before = record
+                                              { before = record { before = c .before; search-negation = c .search-negation }; words = record { given = g } };
+                                          slice-known3
+                                              = record { given = g' };
+                                        };
+                                        terms = record { given = g'' };
+                                      };
+                                      slice-known4 = record { given = g'3 };
                                     };
-                                    t = record { given = g'' };
-                                  };
-                                  slice-known4 = record { given = g'3 };
-                                };
-                                w2 = record
+                                work2 = record
                                     { given = g'4 };
                               }),
                           (tt, tt),
@@ -2133,15 +2134,15 @@ module _ (claims· : Claims) where
                     before = record {
                       before = record {
                         before = record
-                            { before = record { before = c .before; search-negation = c .search-negation }; f = record { given = g } };
-                        slice-known3 =
-                            record { given = g' };
+                            { before = record { before = c .before; search-negation = c .search-negation }; words = record { given = g } };
+                        slice-known3
+                            = record { given = g' };
                       };
-                      t = record { given = g'' };
+                      terms = record { given = g'' };
                     };
                     slice-known4 = record { given = g'3 };
                   };
-                  w2 = record
+                  work2 = record
                       { given = g'4 };
                 },
               ),
@@ -2167,7 +2168,7 @@ module _ (claims· : Claims) where
                             before = record {
                               before = record {
                                 before = record
-                                    { before = record { before = c .before; open-goal = c .open-goal }; w = record { given = g } };
+                                    { before = record { before = c .before; open-goal = c .open-goal }; work = record { given = g } };
                                 if1 = record
                                     { taken = taken };
                               };
@@ -2183,7 +2184,7 @@ module _ (claims· : Claims) where
                           before = record {
                             before = record {
                               before = record
-                                  { before = record { before = c .before; open-goal = c .open-goal }; w = record { given = g } };
+                                  { before = record { before = c .before; open-goal = c .open-goal }; work = record { given = g } };
                               if1 = record
                                   { taken = taken };
                             };
@@ -2216,7 +2217,7 @@ module _ (claims· : Claims) where
                             before = record {
                               before = record {
                                 before = record
-                                    { before = record { before = c .before; open-goal = c .open-goal }; w = record { given = g } };
+                                    { before = record { before = c .before; open-goal = c .open-goal }; work = record { given = g } };
                                 if1 = record
                                     { taken = taken };
                               };
@@ -2232,7 +2233,7 @@ module _ (claims· : Claims) where
             ),
             λ left. lay3 record {
               before = record
-                  { before = record { before = c .before; open-goal = c .open-goal }; w = record { given = g } };
+                  { before = record { before = c .before; open-goal = c .open-goal }; work = record { given = g } };
               if1 = record
                   { left = left };
             },
@@ -2289,12 +2290,12 @@ module _ (claims· : Claims) where
           asked = λ a good pre bs. laid record {
             κs = κs;
             args = record {
-              f = a .0;
+              words = a .0;
               count = a .1 .0;
               goal = a .1 .1 .0;
-              t = a .1 .1 .1
-                  .0;
-              w = a .1 .1 .1 .1 .0;
+              terms = a .1
+                  .1 .1 .0;
+              work = a .1 .1 .1 .1 .0;
               steps = a .1 .1 .1 .1 .1 .0;
             };
             good = good;

@@ -101,8 +101,8 @@ After-put = Lts.After-put (
   Reads'3.Learnt,
 ) Reads'4.Pre Reads'4.Post
 
-abbrev pub After-w : Type 0
-After-w = Lts.After-w (
+abbrev pub After-work : Type 0
+After-work = Lts.After-work (
   Reads'.Asked,
   Reads'.Learnt,
   Reads''.Asked,
@@ -149,8 +149,8 @@ After-put2 = Lts.After-put2 (
   Reads'3.Learnt,
 ) Reads'4.Pre Reads'4.Post
 
-abbrev pub After-w2 : Type 0
-After-w2 = Lts.After-w2 (
+abbrev pub After-work2 : Type 0
+After-work2 = Lts.After-work2 (
   Reads'.Asked,
   Reads'.Learnt,
   Reads''.Asked,
@@ -294,7 +294,6 @@ module _ {M : Type 1} where
   ) Reads'4.Pre Reads'4.Post answer answer'
       answer'' answer'3 answer'4 answer'5 answer'6 answer'7 answer'8
 
-  -- antt refused `close` as it was built: the module's report says why
   pub close : Lts.Closed (
     Reads'.Asked,
     Reads'.Learnt,

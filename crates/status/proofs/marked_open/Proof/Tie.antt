@@ -195,8 +195,8 @@ After-mark-parts = λ Inv μ. Lts.After-mark-parts (
   Reads''.Learnt,
 ) Reads'3.Pre Reads'3.Post Inv μ
 
-abbrev pub After-w : (Inv : InvT-loop) → (μ : MeasureT-loop) → Type 0
-After-w = λ Inv μ. Lts.After-w (
+abbrev pub After-work : (Inv : InvT-loop) → (μ : MeasureT-loop) → Type 0
+After-work = λ Inv μ. Lts.After-work (
   Reads.Asked,
   Reads.Learnt,
   Reads'.Asked,
@@ -415,7 +415,6 @@ module _ {M : Type 1} where
       ) Reads'3.Pre Reads'3.Post Inv μ answer answer' answer'' answer'3 answer'4 answer'5 answer'6 answer'7 answer'8
       answer'9 answer'10 answer'11 answer'12 answer'13
 
-  -- antt refused `close` as it was built: the module's report says why
   pub close : Lts.Closed (
     Reads.Asked,
     Reads.Learnt,

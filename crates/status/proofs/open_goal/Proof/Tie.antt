@@ -33,8 +33,9 @@ abbrev pub After-put : Type 0
 After-put = Lts.After-put (Reads'.Asked, Reads'.Learnt, Reads''.Asked, Reads''.Learnt, Reads.Asked, Reads.Learnt) Reads'3.Pre
     Reads'3.Post
 
-abbrev pub After-w : Type 0
-After-w = Lts.After-w (Reads'.Asked, Reads'.Learnt, Reads''.Asked, Reads''.Learnt, Reads.Asked, Reads.Learnt) Reads'3.Pre Reads'3.Post
+abbrev pub After-work : Type 0
+After-work = Lts.After-work (Reads'.Asked, Reads'.Learnt, Reads''.Asked, Reads''.Learnt, Reads.Asked, Reads.Learnt) Reads'3.Pre
+    Reads'3.Post
 
 abbrev pub After-marked-open-arg : Type 0
 After-marked-open-arg = Lts.After-marked-open-arg
@@ -44,8 +45,9 @@ abbrev pub After-marked-open : Type 0
 After-marked-open = Lts.After-marked-open (Reads'.Asked, Reads'.Learnt, Reads''.Asked, Reads''.Learnt, Reads.Asked, Reads.Learnt)
     Reads'3.Pre Reads'3.Post
 
-abbrev pub After-w2 : Type 0
-After-w2 = Lts.After-w2 (Reads'.Asked, Reads'.Learnt, Reads''.Asked, Reads''.Learnt, Reads.Asked, Reads.Learnt) Reads'3.Pre Reads'3.Post
+abbrev pub After-work2 : Type 0
+After-work2 = Lts.After-work2 (Reads'.Asked, Reads'.Learnt, Reads''.Asked, Reads''.Learnt, Reads.Asked, Reads.Learnt) Reads'3.Pre
+    Reads'3.Post
 
 abbrev pub After-clear-arg : Type 0
 After-clear-arg = Lts.After-clear-arg (Reads'.Asked, Reads'.Learnt, Reads''.Asked, Reads''.Learnt, Reads.Asked, Reads.Learnt)
@@ -55,8 +57,9 @@ abbrev pub After-clear : Type 0
 After-clear = Lts.After-clear (Reads'.Asked, Reads'.Learnt, Reads''.Asked, Reads''.Learnt, Reads.Asked, Reads.Learnt) Reads'3.Pre
     Reads'3.Post
 
-abbrev pub After-w3 : Type 0
-After-w3 = Lts.After-w3 (Reads'.Asked, Reads'.Learnt, Reads''.Asked, Reads''.Learnt, Reads.Asked, Reads.Learnt) Reads'3.Pre Reads'3.Post
+abbrev pub After-work3 : Type 0
+After-work3 = Lts.After-work3 (Reads'.Asked, Reads'.Learnt, Reads''.Asked, Reads''.Learnt, Reads.Asked, Reads.Learnt) Reads'3.Pre
+    Reads'3.Post
 
 abbrev pub Need-put-requires : Type 0
 Need-put-requires = Lts.Need-put-requires (Reads'.Asked, Reads'.Learnt, Reads''.Asked, Reads''.Learnt, Reads.Asked, Reads.Learnt)
@@ -90,7 +93,6 @@ module _ {M : Type 1} where
       (Reads'.Asked, Reads'.Learnt, Reads''.Asked, Reads''.Learnt, Reads.Asked, Reads.Learnt) Reads'3.Pre Reads'3.Post answer answer'
       answer'' answer'3 answer'4 answer'5
 
-  -- antt refused `close` as it was built: the module's report says why
   pub close : Lts.Closed (Reads'.Asked, Reads'.Learnt, Reads''.Asked, Reads''.Learnt, Reads.Asked, Reads.Learnt) Reads'3.Pre
       Reads'3.Post M → Statement.statement M
   unfolding Code.routine Running.tablesOf

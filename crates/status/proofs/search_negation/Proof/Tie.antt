@@ -5,15 +5,15 @@ use Rattle.formula.proofs.pack.Symbol
 use Rattle.formula.proofs.store.Met as Met'
 use Rattle.formula.proofs.store.Reads as Reads'
 use Rattle.formula.proofs.store.Symbol as Symbol'
-use Rattle.status.proofs.Generated.search.Reads as Reads'3
+use Rattle.status.proofs.Generated.search_goal.Reads as Reads'3
 use Rattle.status.proofs.Generated.search_negation.Kinds
 use Rattle.status.proofs.Generated.search_negation.Lts
 use Rattle.status.proofs.Generated.search_negation.Reads as Reads'4
 use Rattle.status.proofs.refuted.Met as Met''
 use Rattle.status.proofs.refuted.Reads as Reads''
 use Rattle.status.proofs.refuted.Symbol as Symbol''
-use Rattle.status.proofs.search.Met as Met'3
-use Rattle.status.proofs.search.Symbol as Symbol'3
+use Rattle.status.proofs.search_goal.Met as Met'3
+use Rattle.status.proofs.search_goal.Symbol as Symbol'3
 use Rattle.status.proofs.search_negation.Code
 use Rattle.status.proofs.search_negation.Key
 use Rattle.status.proofs.search_negation.Statement
@@ -93,8 +93,8 @@ After-store = Lts.After-store (
   Reads''.Learnt,
 ) Reads'4.Pre Reads'4.Post
 
-abbrev pub After-f : Type 0
-After-f = Lts.After-f (
+abbrev pub After-words : Type 0
+After-words = Lts.After-words (
   Reads.Asked,
   Reads.Learnt,
   Reads'.Asked,
@@ -153,8 +153,8 @@ After-store2 = Lts.After-store2 (
   Reads''.Learnt,
 ) Reads'4.Pre Reads'4.Post
 
-abbrev pub After-f2 : Type 0
-After-f2 = Lts.After-f2 (
+abbrev pub After-words2 : Type 0
+After-words2 = Lts.After-words2 (
   Reads.Asked,
   Reads.Learnt,
   Reads'.Asked,
@@ -177,8 +177,8 @@ After-slice-known4 = Lts.After-slice-known4 (
   Reads''.Learnt,
 ) Reads'4.Pre Reads'4.Post
 
-abbrev pub After-search-arg : Type 0
-After-search-arg = Lts.After-search-arg (
+abbrev pub After-search-goal-arg : Type 0
+After-search-goal-arg = Lts.After-search-goal-arg (
   Reads.Asked,
   Reads.Learnt,
   Reads'.Asked,
@@ -189,8 +189,8 @@ After-search-arg = Lts.After-search-arg (
   Reads''.Learnt,
 ) Reads'4.Pre Reads'4.Post
 
-abbrev pub After-search-arg2 : Type 0
-After-search-arg2 = Lts.After-search-arg2 (
+abbrev pub After-search-goal-arg2 : Type 0
+After-search-goal-arg2 = Lts.After-search-goal-arg2 (
   Reads.Asked,
   Reads.Learnt,
   Reads'.Asked,
@@ -201,8 +201,8 @@ After-search-arg2 = Lts.After-search-arg2 (
   Reads''.Learnt,
 ) Reads'4.Pre Reads'4.Post
 
-abbrev pub After-search-arg3 : Type 0
-After-search-arg3 = Lts.After-search-arg3 (
+abbrev pub After-search-goal-arg3 : Type 0
+After-search-goal-arg3 = Lts.After-search-goal-arg3 (
   Reads.Asked,
   Reads.Learnt,
   Reads'.Asked,
@@ -213,8 +213,8 @@ After-search-arg3 = Lts.After-search-arg3 (
   Reads''.Learnt,
 ) Reads'4.Pre Reads'4.Post
 
-abbrev pub After-search : Type 0
-After-search = Lts.After-search (
+abbrev pub After-search-goal : Type 0
+After-search-goal = Lts.After-search-goal (
   Reads.Asked,
   Reads.Learnt,
   Reads'.Asked,
@@ -225,8 +225,8 @@ After-search = Lts.After-search (
   Reads''.Learnt,
 ) Reads'4.Pre Reads'4.Post
 
-abbrev pub After-f3 : Type 0
-After-f3 = Lts.After-f3 (
+abbrev pub After-words3 : Type 0
+After-words3 = Lts.After-words3 (
   Reads.Asked,
   Reads.Learnt,
   Reads'.Asked,
@@ -249,8 +249,8 @@ After-slice-known5 = Lts.After-slice-known5 (
   Reads''.Learnt,
 ) Reads'4.Pre Reads'4.Post
 
-abbrev pub After-t : Type 0
-After-t = Lts.After-t (
+abbrev pub After-terms : Type 0
+After-terms = Lts.After-terms (
   Reads.Asked,
   Reads.Learnt,
   Reads'.Asked,
@@ -273,8 +273,8 @@ After-slice-known6 = Lts.After-slice-known6 (
   Reads''.Learnt,
 ) Reads'4.Pre Reads'4.Post
 
-abbrev pub After-w : Type 0
-After-w = Lts.After-w (
+abbrev pub After-work : Type 0
+After-work = Lts.After-work (
   Reads.Asked,
   Reads.Learnt,
   Reads'.Asked,
@@ -381,8 +381,8 @@ Need-store-requires-2 = Lts.Need-store-requires-2 (
   Reads''.Learnt,
 ) Reads'4.Pre Reads'4.Post
 
-abbrev pub Need-add-search : Type 0
-Need-add-search = Lts.Need-add-search (
+abbrev pub Need-add-search-goal : Type 0
+Need-add-search-goal = Lts.Need-add-search-goal (
   Reads.Asked,
   Reads.Learnt,
   Reads'.Asked,
@@ -393,8 +393,8 @@ Need-add-search = Lts.Need-add-search (
   Reads''.Learnt,
 ) Reads'4.Pre Reads'4.Post
 
-abbrev pub Need-add-search-2 : Type 0
-Need-add-search-2 = Lts.Need-add-search-2 (
+abbrev pub Need-add-search-goal-2 : Type 0
+Need-add-search-goal-2 = Lts.Need-add-search-goal-2 (
   Reads.Asked,
   Reads.Learnt,
   Reads'.Asked,
@@ -405,8 +405,8 @@ Need-add-search-2 = Lts.Need-add-search-2 (
   Reads''.Learnt,
 ) Reads'4.Pre Reads'4.Post
 
-abbrev pub Need-search-requires : Type 0
-Need-search-requires = Lts.Need-search-requires (
+abbrev pub Need-search-goal-requires : Type 0
+Need-search-goal-requires = Lts.Need-search-goal-requires (
   Reads.Asked,
   Reads.Learnt,
   Reads'.Asked,
@@ -479,18 +479,11 @@ Need-returns-2 = Lts.Need-returns-2 (
 
 module _ {M : Type 1} where
   pub spec : (answer : Need-add-if1) → (answer : Need-returns) → (answer : Need-pack-requires) → (answer : Need-store-requires) →
-      (answer : Need-add-store) → (answer : Need-pack-requires-2) → (answer : Need-store-requires-2) → (answer : Need-add-search) →
-      (answer : Need-add-search-2) → (answer : Need-search-requires) → (answer : Need-refuted-requires) → (answer : Need-same-length) →
-      (answer : Need-same-length-2) → (answer : Need-same-length-3) → (answer : Need-returns-2) → Lts.Closed (
-        Reads.Asked,
-        Reads.Learnt,
-        Reads'.Asked,
-        Reads'.Learnt,
-        Reads'3.Asked,
-        Reads'3.Learnt,
-        Reads''.Asked,
-        Reads''.Learnt,
-      ) Reads'4.Pre Reads'4.Post M
+      (answer : Need-add-store) → (answer : Need-pack-requires-2) → (answer : Need-store-requires-2) → (answer : Need-add-search-goal) →
+      (answer : Need-add-search-goal-2) → (answer : Need-search-goal-requires) → (answer : Need-refuted-requires) → (answer :
+      Need-same-length) → (answer : Need-same-length-2) → (answer : Need-same-length-3) → (answer : Need-returns-2) → Lts.Closed
+      (Reads.Asked, Reads.Learnt, Reads'.Asked, Reads'.Learnt, Reads'3.Asked, Reads'3.Learnt, Reads''.Asked, Reads''.Learnt) Reads'4.Pre
+      Reads'4.Post M
   spec = λ answer answer' answer'' answer'3 answer'4 answer'5 answer'6 answer'7 answer'8 answer'9 answer'10 answer'11 answer'12
       answer'13 answer'14. Lts.spec (
         Reads.Asked,
@@ -504,7 +497,6 @@ module _ {M : Type 1} where
       ) Reads'4.Pre Reads'4.Post answer answer' answer'' answer'3 answer'4 answer'5 answer'6 answer'7
       answer'8 answer'9 answer'10 answer'11 answer'12 answer'13 answer'14
 
-  -- antt refused `close` as it was built: the module's report says why
   pub close : Lts.Closed (
     Reads.Asked,
     Reads.Learnt,
@@ -523,6 +515,6 @@ module _ {M : Type 1} where
       Code.env) (Reads.known record { M = M; 𝓤 = 𝓤; H = H; 𝓜 = 𝓜; 𝓖 = 𝓖; 𝓡 = 𝓡 } Code.env Symbol.name Symbol.routine
       Code.calls-formula·pack (Met.met 𝓤 H 𝓜 𝓖 𝓡)) (Reads'.known record { M = M; 𝓤 = 𝓤; H = H; 𝓜 = 𝓜; 𝓖 = 𝓖; 𝓡 = 𝓡 } Code.env
       Symbol'.name Symbol'.routine Code.calls-formula·store (Met'.met 𝓤 H 𝓜 𝓖 𝓡)) (Reads'3.known record
-      { M = M; 𝓤 = 𝓤; H = H; 𝓜 = 𝓜; 𝓖 = 𝓖; 𝓡 = 𝓡 } Code.env Symbol'3.name Symbol'3.routine Code.calls-status·search (Met'3.met 𝓤 H 𝓜 𝓖
-      𝓡)) (Reads''.known record { M = M; 𝓤 = 𝓤; H = H; 𝓜 = 𝓜; 𝓖 = 𝓖; 𝓡 = 𝓡 } Code.env Symbol''.name Symbol''.routine
+      { M = M; 𝓤 = 𝓤; H = H; 𝓜 = 𝓜; 𝓖 = 𝓖; 𝓡 = 𝓡 } Code.env Symbol'3.name Symbol'3.routine Code.calls-status·search-goal (Met'3.met 𝓤 H
+      𝓜 𝓖 𝓡)) (Reads''.known record { M = M; 𝓤 = 𝓤; H = H; 𝓜 = 𝓜; 𝓖 = 𝓖; 𝓡 = 𝓡 } Code.env Symbol''.name Symbol''.routine
       Code.calls-status·refuted (Met''.met 𝓤 H 𝓜 𝓖 𝓡))

@@ -1,5 +1,5 @@
 -- Made by tools/records.py from the sources; antt refuses it where it is stale. Assumes nothing.
-use Rattle.status.proofs.Generated.search.Reads as Reads'
+use Rattle.status.proofs.Generated.search_goal.Reads as Reads'
 use Rattle.status.proofs.Generated.solvable_status.Kinds
 use Rattle.status.proofs.Generated.solvable_status.Lts
 use Rattle.status.proofs.Generated.solvable_status.Reads as Reads''
@@ -7,8 +7,8 @@ use Rattle.status.proofs.Generated.unproved.Reads as Reads'3
 use Rattle.status.proofs.clean.Met
 use Rattle.status.proofs.clean.Reads
 use Rattle.status.proofs.clean.Symbol
-use Rattle.status.proofs.search.Met as Met'
-use Rattle.status.proofs.search.Symbol as Symbol'
+use Rattle.status.proofs.search_goal.Met as Met'
+use Rattle.status.proofs.search_goal.Symbol as Symbol'
 use Rattle.status.proofs.solvable_status.Code
 use Rattle.status.proofs.solvable_status.Key
 use Rattle.status.proofs.solvable_status.Statement
@@ -29,38 +29,41 @@ abbrev pub After-slice-known2 : Type 0
 After-slice-known2 = Lts.After-slice-known2 (Reads'.Asked, Reads'.Learnt, Reads.Asked, Reads.Learnt, Reads'3.Asked, Reads'3.Learnt)
     Reads''.Pre Reads''.Post
 
-abbrev pub After-search-arg : Type 0
-After-search-arg = Lts.After-search-arg (Reads'.Asked, Reads'.Learnt, Reads.Asked, Reads.Learnt, Reads'3.Asked, Reads'3.Learnt)
+abbrev pub After-search-goal-arg : Type 0
+After-search-goal-arg = Lts.After-search-goal-arg
+    (Reads'.Asked, Reads'.Learnt, Reads.Asked, Reads.Learnt, Reads'3.Asked, Reads'3.Learnt) Reads''.Pre Reads''.Post
+
+abbrev pub After-search-goal-arg2 : Type 0
+After-search-goal-arg2 = Lts.After-search-goal-arg2
+    (Reads'.Asked, Reads'.Learnt, Reads.Asked, Reads.Learnt, Reads'3.Asked, Reads'3.Learnt) Reads''.Pre Reads''.Post
+
+abbrev pub After-search-goal-arg3 : Type 0
+After-search-goal-arg3 = Lts.After-search-goal-arg3
+    (Reads'.Asked, Reads'.Learnt, Reads.Asked, Reads.Learnt, Reads'3.Asked, Reads'3.Learnt) Reads''.Pre Reads''.Post
+
+abbrev pub After-search-goal : Type 0
+After-search-goal = Lts.After-search-goal (Reads'.Asked, Reads'.Learnt, Reads.Asked, Reads.Learnt, Reads'3.Asked, Reads'3.Learnt)
     Reads''.Pre Reads''.Post
 
-abbrev pub After-search-arg2 : Type 0
-After-search-arg2 = Lts.After-search-arg2 (Reads'.Asked, Reads'.Learnt, Reads.Asked, Reads.Learnt, Reads'3.Asked, Reads'3.Learnt)
-    Reads''.Pre Reads''.Post
-
-abbrev pub After-search-arg3 : Type 0
-After-search-arg3 = Lts.After-search-arg3 (Reads'.Asked, Reads'.Learnt, Reads.Asked, Reads.Learnt, Reads'3.Asked, Reads'3.Learnt)
-    Reads''.Pre Reads''.Post
-
-abbrev pub After-search : Type 0
-After-search = Lts.After-search (Reads'.Asked, Reads'.Learnt, Reads.Asked, Reads.Learnt, Reads'3.Asked, Reads'3.Learnt) Reads''.Pre
+abbrev pub After-words : Type 0
+After-words = Lts.After-words (Reads'.Asked, Reads'.Learnt, Reads.Asked, Reads.Learnt, Reads'3.Asked, Reads'3.Learnt) Reads''.Pre
     Reads''.Post
-
-abbrev pub After-f : Type 0
-After-f = Lts.After-f (Reads'.Asked, Reads'.Learnt, Reads.Asked, Reads.Learnt, Reads'3.Asked, Reads'3.Learnt) Reads''.Pre Reads''.Post
 
 abbrev pub After-slice-known3 : Type 0
 After-slice-known3 = Lts.After-slice-known3 (Reads'.Asked, Reads'.Learnt, Reads.Asked, Reads.Learnt, Reads'3.Asked, Reads'3.Learnt)
     Reads''.Pre Reads''.Post
 
-abbrev pub After-t : Type 0
-After-t = Lts.After-t (Reads'.Asked, Reads'.Learnt, Reads.Asked, Reads.Learnt, Reads'3.Asked, Reads'3.Learnt) Reads''.Pre Reads''.Post
+abbrev pub After-terms : Type 0
+After-terms = Lts.After-terms (Reads'.Asked, Reads'.Learnt, Reads.Asked, Reads.Learnt, Reads'3.Asked, Reads'3.Learnt) Reads''.Pre
+    Reads''.Post
 
 abbrev pub After-slice-known4 : Type 0
 After-slice-known4 = Lts.After-slice-known4 (Reads'.Asked, Reads'.Learnt, Reads.Asked, Reads.Learnt, Reads'3.Asked, Reads'3.Learnt)
     Reads''.Pre Reads''.Post
 
-abbrev pub After-w : Type 0
-After-w = Lts.After-w (Reads'.Asked, Reads'.Learnt, Reads.Asked, Reads.Learnt, Reads'3.Asked, Reads'3.Learnt) Reads''.Pre Reads''.Post
+abbrev pub After-work : Type 0
+After-work = Lts.After-work (Reads'.Asked, Reads'.Learnt, Reads.Asked, Reads.Learnt, Reads'3.Asked, Reads'3.Learnt) Reads''.Pre
+    Reads''.Post
 
 abbrev pub At-match-keys1 : Type 0
 At-match-keys1 = Lts.At-match-keys1 (Reads'.Asked, Reads'.Learnt, Reads.Asked, Reads.Learnt, Reads'3.Asked, Reads'3.Learnt) Reads''.Pre
@@ -82,15 +85,17 @@ abbrev pub After-clean : Type 0
 After-clean = Lts.After-clean (Reads'.Asked, Reads'.Learnt, Reads.Asked, Reads.Learnt, Reads'3.Asked, Reads'3.Learnt) Reads''.Pre
     Reads''.Post
 
-abbrev pub After-f2 : Type 0
-After-f2 = Lts.After-f2 (Reads'.Asked, Reads'.Learnt, Reads.Asked, Reads.Learnt, Reads'3.Asked, Reads'3.Learnt) Reads''.Pre Reads''.Post
+abbrev pub After-words2 : Type 0
+After-words2 = Lts.After-words2 (Reads'.Asked, Reads'.Learnt, Reads.Asked, Reads.Learnt, Reads'3.Asked, Reads'3.Learnt) Reads''.Pre
+    Reads''.Post
 
 abbrev pub After-slice-known5 : Type 0
 After-slice-known5 = Lts.After-slice-known5 (Reads'.Asked, Reads'.Learnt, Reads.Asked, Reads.Learnt, Reads'3.Asked, Reads'3.Learnt)
     Reads''.Pre Reads''.Post
 
-abbrev pub After-t2 : Type 0
-After-t2 = Lts.After-t2 (Reads'.Asked, Reads'.Learnt, Reads.Asked, Reads.Learnt, Reads'3.Asked, Reads'3.Learnt) Reads''.Pre Reads''.Post
+abbrev pub After-terms2 : Type 0
+After-terms2 = Lts.After-terms2 (Reads'.Asked, Reads'.Learnt, Reads.Asked, Reads.Learnt, Reads'3.Asked, Reads'3.Learnt) Reads''.Pre
+    Reads''.Post
 
 abbrev pub After-slice-known6 : Type 0
 After-slice-known6 = Lts.After-slice-known6 (Reads'.Asked, Reads'.Learnt, Reads.Asked, Reads.Learnt, Reads'3.Asked, Reads'3.Learnt)
@@ -120,22 +125,25 @@ abbrev pub After-unproved : Type 0
 After-unproved = Lts.After-unproved (Reads'.Asked, Reads'.Learnt, Reads.Asked, Reads.Learnt, Reads'3.Asked, Reads'3.Learnt) Reads''.Pre
     Reads''.Post
 
-abbrev pub After-f3 : Type 0
-After-f3 = Lts.After-f3 (Reads'.Asked, Reads'.Learnt, Reads.Asked, Reads.Learnt, Reads'3.Asked, Reads'3.Learnt) Reads''.Pre Reads''.Post
+abbrev pub After-words3 : Type 0
+After-words3 = Lts.After-words3 (Reads'.Asked, Reads'.Learnt, Reads.Asked, Reads.Learnt, Reads'3.Asked, Reads'3.Learnt) Reads''.Pre
+    Reads''.Post
 
 abbrev pub After-slice-known7 : Type 0
 After-slice-known7 = Lts.After-slice-known7 (Reads'.Asked, Reads'.Learnt, Reads.Asked, Reads.Learnt, Reads'3.Asked, Reads'3.Learnt)
     Reads''.Pre Reads''.Post
 
-abbrev pub After-t3 : Type 0
-After-t3 = Lts.After-t3 (Reads'.Asked, Reads'.Learnt, Reads.Asked, Reads.Learnt, Reads'3.Asked, Reads'3.Learnt) Reads''.Pre Reads''.Post
+abbrev pub After-terms3 : Type 0
+After-terms3 = Lts.After-terms3 (Reads'.Asked, Reads'.Learnt, Reads.Asked, Reads.Learnt, Reads'3.Asked, Reads'3.Learnt) Reads''.Pre
+    Reads''.Post
 
 abbrev pub After-slice-known8 : Type 0
 After-slice-known8 = Lts.After-slice-known8 (Reads'.Asked, Reads'.Learnt, Reads.Asked, Reads.Learnt, Reads'3.Asked, Reads'3.Learnt)
     Reads''.Pre Reads''.Post
 
-abbrev pub After-w2 : Type 0
-After-w2 = Lts.After-w2 (Reads'.Asked, Reads'.Learnt, Reads.Asked, Reads.Learnt, Reads'3.Asked, Reads'3.Learnt) Reads''.Pre Reads''.Post
+abbrev pub After-work2 : Type 0
+After-work2 = Lts.After-work2 (Reads'.Asked, Reads'.Learnt, Reads.Asked, Reads.Learnt, Reads'3.Asked, Reads'3.Learnt) Reads''.Pre
+    Reads''.Post
 
 abbrev pub After-clean-arg3 : Type 0
 After-clean-arg3 = Lts.After-clean-arg3 (Reads'.Asked, Reads'.Learnt, Reads.Asked, Reads.Learnt, Reads'3.Asked, Reads'3.Learnt)
@@ -149,15 +157,17 @@ abbrev pub After-clean2 : Type 0
 After-clean2 = Lts.After-clean2 (Reads'.Asked, Reads'.Learnt, Reads.Asked, Reads.Learnt, Reads'3.Asked, Reads'3.Learnt) Reads''.Pre
     Reads''.Post
 
-abbrev pub After-f4 : Type 0
-After-f4 = Lts.After-f4 (Reads'.Asked, Reads'.Learnt, Reads.Asked, Reads.Learnt, Reads'3.Asked, Reads'3.Learnt) Reads''.Pre Reads''.Post
+abbrev pub After-words4 : Type 0
+After-words4 = Lts.After-words4 (Reads'.Asked, Reads'.Learnt, Reads.Asked, Reads.Learnt, Reads'3.Asked, Reads'3.Learnt) Reads''.Pre
+    Reads''.Post
 
 abbrev pub After-slice-known9 : Type 0
 After-slice-known9 = Lts.After-slice-known9 (Reads'.Asked, Reads'.Learnt, Reads.Asked, Reads.Learnt, Reads'3.Asked, Reads'3.Learnt)
     Reads''.Pre Reads''.Post
 
-abbrev pub After-t4 : Type 0
-After-t4 = Lts.After-t4 (Reads'.Asked, Reads'.Learnt, Reads.Asked, Reads.Learnt, Reads'3.Asked, Reads'3.Learnt) Reads''.Pre Reads''.Post
+abbrev pub After-terms4 : Type 0
+After-terms4 = Lts.After-terms4 (Reads'.Asked, Reads'.Learnt, Reads.Asked, Reads.Learnt, Reads'3.Asked, Reads'3.Learnt) Reads''.Pre
+    Reads''.Post
 
 abbrev pub After-slice-known10 : Type 0
 After-slice-known10 = Lts.After-slice-known10 (Reads'.Asked, Reads'.Learnt, Reads.Asked, Reads.Learnt, Reads'3.Asked, Reads'3.Learnt)
@@ -187,9 +197,9 @@ abbrev pub After-known-told2 : Type 0
 After-known-told2 = Lts.After-known-told2 (Reads'.Asked, Reads'.Learnt, Reads.Asked, Reads.Learnt, Reads'3.Asked, Reads'3.Learnt)
     Reads''.Pre Reads''.Post
 
-abbrev pub Need-search-requires : Type 0
-Need-search-requires = Lts.Need-search-requires (Reads'.Asked, Reads'.Learnt, Reads.Asked, Reads.Learnt, Reads'3.Asked, Reads'3.Learnt)
-    Reads''.Pre Reads''.Post
+abbrev pub Need-search-goal-requires : Type 0
+Need-search-goal-requires = Lts.Need-search-goal-requires
+    (Reads'.Asked, Reads'.Learnt, Reads.Asked, Reads.Learnt, Reads'3.Asked, Reads'3.Learnt) Reads''.Pre Reads''.Post
 
 abbrev pub Need-enum-told : Type 0
 Need-enum-told = Lts.Need-enum-told (Reads'.Asked, Reads'.Learnt, Reads.Asked, Reads.Learnt, Reads'3.Asked, Reads'3.Learnt) Reads''.Pre
@@ -284,21 +294,20 @@ Need-returns-4 = Lts.Need-returns-4 (Reads'.Asked, Reads'.Learnt, Reads.Asked, R
     Reads''.Post
 
 module _ {M : Type 1} where
-  pub spec : (answer : Need-search-requires) → (answer : Need-enum-told) → (answer : Need-clean-requires) → (answer : Need-enum-told-2)
-      → (answer : Need-unproved-requires) → (answer : Need-clean-requires-2) → (answer : Need-enum-known-number) → (answer :
-      Need-enum-known-number-2) → (answer : Need-same-length) → (answer : Need-same-length-2) → (answer : Need-same-length-3) → (answer
-      : Need-returns) → (answer : Need-same-length-4) → (answer : Need-same-length-5) → (answer : Need-same-length-6) → (answer :
-      Need-returns-2) → (answer : Need-same-length-7) → (answer : Need-same-length-8) → (answer : Need-same-length-9) → (answer :
-      Need-returns-3) → (answer : Need-same-length-10) → (answer : Need-same-length-11) → (answer : Need-same-length-12) → (answer :
-      Need-returns-4) → Lts.Closed (Reads'.Asked, Reads'.Learnt, Reads.Asked, Reads.Learnt, Reads'3.Asked, Reads'3.Learnt) Reads''.Pre
-      Reads''.Post M
+  pub spec : (answer : Need-search-goal-requires) → (answer : Need-enum-told) → (answer : Need-clean-requires) → (answer :
+      Need-enum-told-2) → (answer : Need-unproved-requires) → (answer : Need-clean-requires-2) → (answer : Need-enum-known-number) →
+      (answer : Need-enum-known-number-2) → (answer : Need-same-length) → (answer : Need-same-length-2) → (answer : Need-same-length-3)
+      → (answer : Need-returns) → (answer : Need-same-length-4) → (answer : Need-same-length-5) → (answer : Need-same-length-6) →
+      (answer : Need-returns-2) → (answer : Need-same-length-7) → (answer : Need-same-length-8) → (answer : Need-same-length-9) →
+      (answer : Need-returns-3) → (answer : Need-same-length-10) → (answer : Need-same-length-11) → (answer : Need-same-length-12) →
+      (answer : Need-returns-4) → Lts.Closed (Reads'.Asked, Reads'.Learnt, Reads.Asked, Reads.Learnt, Reads'3.Asked, Reads'3.Learnt)
+      Reads''.Pre Reads''.Post M
   spec = λ answer answer' answer'' answer'3 answer'4 answer'5 answer'6 answer'7 answer'8 answer'9 answer'10 answer'11 answer'12
       answer'13 answer'14 answer'15 answer'16 answer'17 answer'18 answer'19 answer'20 answer'21 answer'22 answer'23. Lts.spec
       (Reads'.Asked, Reads'.Learnt, Reads.Asked, Reads.Learnt, Reads'3.Asked, Reads'3.Learnt) Reads''.Pre Reads''.Post answer answer'
       answer'' answer'3 answer'4 answer'5 answer'6 answer'7 answer'8 answer'9 answer'10 answer'11 answer'12 answer'13 answer'14
       answer'15 answer'16 answer'17 answer'18 answer'19 answer'20 answer'21 answer'22 answer'23
 
-  -- antt refused `close` as it was built: the module's report says why
   pub close : Lts.Closed (Reads'.Asked, Reads'.Learnt, Reads.Asked, Reads.Learnt, Reads'3.Asked, Reads'3.Learnt) Reads''.Pre
       Reads''.Post M → Statement.statement M
   unfolding Code.routine Running.tablesOf
@@ -307,7 +316,7 @@ module _ {M : Type 1} where
       (Code.unfolded 𝓤 H 𝓜 𝓡) (λ κs a g. tt) (λ κs. Reads''.owns κs record { M = M; 𝓤 = 𝓤; H = H; 𝓜 = 𝓜; 𝓖 = 𝓖; 𝓡 = 𝓡 }) (Reads''.passes
       record { M = M; 𝓤 = 𝓤; H = H; 𝓜 = 𝓜; 𝓖 = 𝓖; 𝓡 = 𝓡 }) λ g. closed 𝓤 H (𝓖 .A) (Running.givenOf 𝓤 H 𝓜 𝓖) (Run.Over 𝓤 H 𝓜 𝓖 𝓡
       Code.env) (Reads'.known record { M = M; 𝓤 = 𝓤; H = H; 𝓜 = 𝓜; 𝓖 = 𝓖; 𝓡 = 𝓡 } Code.env Symbol'.name Symbol'.routine
-      Code.calls-status·search (Met'.met 𝓤 H 𝓜 𝓖 𝓡)) (Reads.known record { M = M; 𝓤 = 𝓤; H = H; 𝓜 = 𝓜; 𝓖 = 𝓖; 𝓡 = 𝓡 } Code.env
+      Code.calls-status·search-goal (Met'.met 𝓤 H 𝓜 𝓖 𝓡)) (Reads.known record { M = M; 𝓤 = 𝓤; H = H; 𝓜 = 𝓜; 𝓖 = 𝓖; 𝓡 = 𝓡 } Code.env
       Symbol.name Symbol.routine Code.calls-status·clean (Met.met 𝓤 H 𝓜 𝓖 𝓡)) (Reads'3.known record
       { M = M; 𝓤 = 𝓤; H = H; 𝓜 = 𝓜; 𝓖 = 𝓖; 𝓡 = 𝓡 } Code.env Symbol''.name Symbol''.routine Code.calls-status·unproved (Met''.met 𝓤 H 𝓜 𝓖
       𝓡))

@@ -33,8 +33,8 @@ After-open-goal-arg2 = Lts.After-open-goal-arg2 (Reads.Asked, Reads.Learnt, Read
 abbrev pub After-open-goal : Type 0
 After-open-goal = Lts.After-open-goal (Reads.Asked, Reads.Learnt, Reads'.Asked, Reads'.Learnt) Reads''.Pre Reads''.Post
 
-abbrev pub After-w : Type 0
-After-w = Lts.After-w (Reads.Asked, Reads.Learnt, Reads'.Asked, Reads'.Learnt) Reads''.Pre Reads''.Post
+abbrev pub After-work : Type 0
+After-work = Lts.After-work (Reads.Asked, Reads.Learnt, Reads'.Asked, Reads'.Learnt) Reads''.Pre Reads''.Post
 
 abbrev pub Then1 : Type 0
 Then1 = Lts.Then1 (Reads.Asked, Reads.Learnt, Reads'.Asked, Reads'.Learnt) Reads''.Pre Reads''.Post
@@ -54,20 +54,20 @@ After-search-negation-arg3 = Lts.After-search-negation-arg3 (Reads.Asked, Reads.
 abbrev pub After-search-negation : Type 0
 After-search-negation = Lts.After-search-negation (Reads.Asked, Reads.Learnt, Reads'.Asked, Reads'.Learnt) Reads''.Pre Reads''.Post
 
-abbrev pub After-f : Type 0
-After-f = Lts.After-f (Reads.Asked, Reads.Learnt, Reads'.Asked, Reads'.Learnt) Reads''.Pre Reads''.Post
+abbrev pub After-words : Type 0
+After-words = Lts.After-words (Reads.Asked, Reads.Learnt, Reads'.Asked, Reads'.Learnt) Reads''.Pre Reads''.Post
 
 abbrev pub After-slice-known3 : Type 0
 After-slice-known3 = Lts.After-slice-known3 (Reads.Asked, Reads.Learnt, Reads'.Asked, Reads'.Learnt) Reads''.Pre Reads''.Post
 
-abbrev pub After-t : Type 0
-After-t = Lts.After-t (Reads.Asked, Reads.Learnt, Reads'.Asked, Reads'.Learnt) Reads''.Pre Reads''.Post
+abbrev pub After-terms : Type 0
+After-terms = Lts.After-terms (Reads.Asked, Reads.Learnt, Reads'.Asked, Reads'.Learnt) Reads''.Pre Reads''.Post
 
 abbrev pub After-slice-known4 : Type 0
 After-slice-known4 = Lts.After-slice-known4 (Reads.Asked, Reads.Learnt, Reads'.Asked, Reads'.Learnt) Reads''.Pre Reads''.Post
 
-abbrev pub After-w2 : Type 0
-After-w2 = Lts.After-w2 (Reads.Asked, Reads.Learnt, Reads'.Asked, Reads'.Learnt) Reads''.Pre Reads''.Post
+abbrev pub After-work2 : Type 0
+After-work2 = Lts.After-work2 (Reads.Asked, Reads.Learnt, Reads'.Asked, Reads'.Learnt) Reads''.Pre Reads''.Post
 
 abbrev pub Else1 : Type 0
 Else1 = Lts.Else1 (Reads.Asked, Reads.Learnt, Reads'.Asked, Reads'.Learnt) Reads''.Pre Reads''.Post
@@ -109,7 +109,6 @@ module _ {M : Type 1} where
       (Reads.Asked, Reads.Learnt, Reads'.Asked, Reads'.Learnt) Reads''.Pre Reads''.Post answer answer' answer'' answer'3 answer'4
       answer'5 answer'6 answer'7 answer'8
 
-  -- antt refused `close` as it was built: the module's report says why
   pub close : Lts.Closed (Reads.Asked, Reads.Learnt, Reads'.Asked, Reads'.Learnt) Reads''.Pre Reads''.Post M → Statement.statement M
   unfolding Code.routine Running.tablesOf
   close = λ closed 𝓤 H 𝓜 𝓖 𝓡. Written.close 3 Kinds.ps Kinds.r Reads''.Ghost Reads''.requires Reads''.ensures Reads''.pre-read

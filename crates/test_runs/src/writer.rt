@@ -1,0 +1,133 @@
+// A term through the writer.
+ghost use Prim.Native.Nat.{_<_};
+use crate::Answer;
+use crate::MOST_NUMBERS;
+use crate::MOST_WORDS;
+use crate::book;
+use test_rows::at_most;
+use test_rows::field;
+
+// What the writer gave: its number and place, and how many bytes.
+pub struct Written {
+    pub asked: bool,
+    pub number: usize,
+    pub place: usize,
+    pub length: usize,
+}
+
+pub fn unwritten() -> Written {
+    Written {
+        asked: false,
+        number: 0,
+        place: 0,
+        length: 0,
+    }
+}
+
+// Asks the writer.
+pub fn write(
+    s: &[u8],
+    book: usize,
+    f: &[u32],
+    count: usize,
+    t: &[u16],
+    nodes: usize,
+    root: usize,
+    text: &mut [u8],
+) -> Written {
+    let mut number = 0;
+    let mut place = 0;
+    let length = house_text::write_text(
+        f,
+        count,
+        book::assumptions(s, book),
+        book::names(s, book),
+        t,
+        nodes,
+        root,
+        text,
+        &mut number,
+        &mut place,
+    );
+    Written {
+        asked: true,
+        number,
+        place,
+        length,
+    }
+}
+
+// Behind the text the buffer is zero, and so is all of it after 12; a writer that refused or was not asked left it as it was.
+pub fn kept(text: &[u8], written: Written, junk: u8) -> bool {
+    if written.asked {
+        if written.number == 0 {
+            return test_rows::bytes_are(text, written.length, 0);
+        }
+        if written.number == 12 {
+            return test_rows::bytes_are(text, 0, 0);
+        }
+    }
+    test_rows::bytes_are(text, 0, junk)
+}
+
+fn wide(b: u8) -> usize
+    ensures { λ r. ⌜ r < 256 ⌝ }
+{
+    b as usize
+}
+
+// The Adler-32 of the first n bytes, 0 of none.
+pub fn checksum(text: &[u8], n: usize) -> usize
+    ensures { λ r. ⌜ r < 4294967296 ⌝ }
+{
+    if n == 0 {
+        return 0;
+    }
+    let end = at_most(n, text.len());
+    let mut low = 1;
+    let mut high = 0;
+    let mut i = 0;
+    while i < end {
+        low = (low + wide(text[i])) % 65521;
+        high = (high + low) % 65521;
+        i += 1;
+    }
+    high * 65536 + low
+}
+
+fn answer(s: &[u8], row: usize, book: usize, f: &[u32], t: &[u16], text: &mut [u8]) -> Answer {
+    let count = book::given(s, book) + field(s, row, crate::SURPLUS);
+    let nodes = field(s, row, crate::NODES);
+    let root = field(s, row, crate::GOAL);
+    let written = write(s, book, f, count, t, nodes, root, text);
+    Answer {
+        call: [written.number, written.place, 0, 0, 0, 0, 0],
+        writer: written.number,
+        length: written.length,
+        checksum: checksum(text, written.length),
+        kept: kept(text, written, crate::junk(s, row)),
+    }
+}
+
+// Reads the words and the term of a book.
+fn read(s: &[u8], book: usize, f: &mut [u32], t: &mut [u16]) {
+    test_rows::read_words(s, book::words_at(s, book), book::given(s, book), f);
+    test_rows::read_halves(s, book::numbers_at(s, book), field(s, book, 3), t);
+}
+
+// Lends as much of each slice as the row says.
+fn lend(s: &[u8], row: usize, book: usize, f: &[u32], t: &[u16], text: &mut [u8]) -> Answer {
+    let words = at_most(field(s, row, crate::WORDS), f.len());
+    let numbers = at_most(field(s, row, crate::NUMBERS), t.len());
+    let room = at_most(field(s, row, crate::TEXT), text.len());
+    answer(s, row, book, &f[..words], &t[..numbers], &mut text[..room])
+}
+
+// Writes a given term, over slices full of junk.
+pub fn run(s: &[u8], row: usize, book: usize, text: &mut [u8]) -> Answer {
+    let junk = crate::junk(s, row);
+    let mut f = [junk as u32; MOST_WORDS];
+    let mut t = [junk as u16; MOST_NUMBERS];
+    read(s, book, &mut f, &mut t);
+    lend(s, row, book, &f, &t, text)
+}
