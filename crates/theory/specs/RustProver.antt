@@ -13,7 +13,8 @@ use Rattle.theory.specs.RustTerm.{ProofTerm, Ident, Pair, ProjectFst, Pr
 use Rattle.theory.specs.RustTerm.{TypeAscription, UnitTerm, TypeJudgment, judgment, Sequent, withNewGoal, appendOrdered}
 use Rattle.theory.specs.RustTerm.{appendUnordered, remove, find}
 
--- the panics that the definition has: the power of a name overflows in the generator, and the assertion of search fails
+-- the panics that the definition has: the power of a name overflows in the generator, and the assertion of search fails. Those that stand
+-- behind a match that rules them out have no clause
 pub data Panic : Type 0 where
   overflow : Panic
   assertion : Panic
