@@ -14,18 +14,18 @@ use Rattle.theory.specs.NameText.{namesIn, badName, padded, emptied, las
 use Rattle.theory.specs.Layout.{nodeWidth, nodesIn, badNodeFrom, badTerm}
 use Rattle.theory.specs.World.{Tree, modelOf, ForcesEach, firstWorld}
 use Rattle.theory.specs.Kripke.{Lawful, frame, forces}
-use Rattle.theory.specs.Meter.{Lack, Steps, short, unfinished}
+use Rattle.theory.specs.Meter.{Lack, Steps, State, found, failed, short, unfinished}
 use Rattle.theory.specs.Log.{Logged, readOff}
 use Rattle.theory.specs.Written.{assumptions, Logs}
 use Rattle.theory.specs.Text.{termText}
-use Rattle.theory.specs.Refusal.{Fault, Sizes, Refused, badAssumption}
+use Rattle.theory.specs.Refusal.{Fault, Sizes, Refused, badAssumption, faultNumber, lackNumber}
 use Rattle.theory.specs.Call.{Claim, givenWords, givenBook, refusal, searchLimits, searched, proved, unprovable, shortage, refused}
-use Rattle.theory.specs.Call.{After, recordsAfter, givenBack, unchanged, answered, called}
+use Rattle.theory.specs.Call.{numbers, After, recordsAfter, givenBack, unchanged, answered, called}
 use Rattle.theory.specs.Writer.{termDepth, Draft, draftAfter, writerRefusal, drafted, notWritten, written}
-use Rattle.theory.specs.Status.{rejected, Inquiry, firstClaim, secondClaim, secondOutcome, cleanedUp, asked}
+use Rattle.theory.specs.Status.{rejected, statusNumbers, Inquiry, firstClaim, secondClaim, secondOutcome, cleanedUp, asked}
 use Rattle.theory.specs.File.{File, decoded, claimOf, printed}
 use Rattle.theory.specs.Places.{LowestWord, FirstOutside, FirstFaulty, LowestNode}
-use Rattle.theory.specs.Owed.{Faulty, Bounds, ZeroAbove, Grown, FitIn, Decided, Says, Passes}
+use Rattle.theory.specs.Owed.{Faulty, Bounds, ZeroAbove, Grown, FitIn, Lent, Decided, Says, Passes}
 use Rattle.theory.proofs.Written.{one-log-only}
 use Rattle.theory.proofs.Passing.{passes}
 use Rattle.theory.proofs.Called
@@ -72,12 +72,49 @@ module _ (x : Claim) where
   pub lengths-kept : (length ((called x) .words) ≡ length (x .words)) × (length ((called x) .terms) ≡ length (x .terms))
   lengths-kept = Slices.lengths x
 
-  -- the numbers that come back are within what was lent; a proved term's root is one of its nodes, and Unprovable's fills are the given
-  -- count and 0
+  -- the numbers that come back, by the definition that gives them. Of a refusal its number in the table and its place, "other numbers 0"
+  pub numbers-refused : {r : Refused} → refusal x ≡ some r → numbers ((called x) .outcome) ≡
+      record { number = faultNumber (r .fault); place = r .place; root = 0; steps = 0; indices = 0; formulas = 0; terms = 0 }
+  unfolding unchanged numbers
+  numbers-refused e = ap (λ (a : After). numbers (a .outcome)) (Called.refused-call x e)
+
+  -- "Proved returns root, steps, generated indices used, formula fill, term fill": those of the search
+  pub numbers-proved : refusal x ≡ none → {t : ℕ} {s : State} → searched x ≡ found t s → numbers ((called x) .outcome) ≡ record {
+    number = 0;
+    place = 0;
+    root = t;
+    steps = s .steps;
+    indices = s .used;
+    formulas = length (s .words);
+    terms = length (s .nodes);
+  }
+  unfolding answered numbers
+  numbers-proved e p = ap (λ (a : After). numbers (a .outcome)) (Called.passed-call x e ∙ ap (answered x) p)
+
+  -- "Unprovable returns steps and indices, with fills equal to the given count and 0"
+  pub numbers-unprovable : refusal x ≡ none → {u n : ℕ} {K : Tree} → searched x ≡ failed u n K → numbers ((called x) .outcome) ≡
+      record { number = 0; place = 0; root = 0; steps = n; indices = u; formulas = x .count; terms = 0 }
+  unfolding answered givenBack numbers
+  numbers-unprovable e p = ap (λ (a : After). numbers (a .outcome)) (Called.passed-call x e ∙ ap (answered x) p)
+
+  -- "6 to 11 return the steps entered (for 6, the limit), other numbers 0"
+  pub numbers-shortage : refusal x ≡ none → {l : Lack} {n : ℕ} → searched x ≡ short l n → numbers ((called x) .outcome) ≡
+      record { number = lackNumber l; place = 0; root = 0; steps = n; indices = 0; formulas = 0; terms = 0 }
+  unfolding answered givenBack numbers
+  numbers-shortage e p = ap (λ (a : After). numbers (a .outcome)) (Called.passed-call x e ∙ ap (answered x) p)
+
+  pub numbers-six : (numbers ((called x) .outcome)) .number ≡ 6 → (numbers ((called x) .outcome)) .steps ≡ x .stepLimit
+  numbers-six = Outcomes.number-six x
+
+  -- steps, indices and fills are within what was lent, whatever the outcome
+  pub numbers-lent : Lent x (numbers ((called x) .outcome))
+  numbers-lent = Outcomes.numbers-lent x
+
+  -- the same by outcome; a proved term's root is one of its nodes, and Unprovable's fills are the given count and 0
   pub numbers-fit : FitIn x ((called x) .outcome)
   numbers-fit = Outcomes.numbers-fit x
 
-  -- "6 to 11 return the steps entered (for 6, the limit)"
+  -- "for 6, the limit", of the outcome
   pub shortage-steps : {n : ℕ} → (called x) .outcome ≡ shortage Steps n → n ≡ x .stepLimit
   shortage-steps e = Slices.steps-at-limit x (Called.runs-short x e)
 
@@ -241,6 +278,16 @@ module _ (x : Inquiry) where
   -- negation has one; Unknown says that there is none and that the goal is open; a shortage and a refusal are the first search's
   pub status-says : Says x ((asked x) .status)
   status-says = StatusCalls.status-says x
+
+  -- the numbers of a status, by the definition that gives them: "a verdict comes with no other number"; a shortage and a refusal come with
+  -- the first search's
+  pub verdict-numbers : Decided ((called (firstClaim x)) .outcome) →
+      statusNumbers ((asked x) .status) ≡ record { number = 0; place = 0; root = 0; steps = 0; indices = 0; formulas = 0; terms = 0 }
+  verdict-numbers = StatusCalls.verdict-numbers x
+
+  pub status-numbers : ¬ Decided ((called (firstClaim x)) .outcome) →
+      statusNumbers ((asked x) .status) ≡ numbers ((called (firstClaim x)) .outcome)
+  status-numbers = StatusCalls.status-numbers x
 
   -- the second search is never refused
   pub second-passes : refusal (firstClaim x) ≡ none → x .count + 2 ≤ length (x .words) → refusal (secondClaim x) ≡ none

@@ -1,8 +1,9 @@
 -- What a decided outcome promises: the returned term derives the goal, or a countermodel stands against it. Assumes nothing.
-use Prim.Native.Nat.{ℕ, suc, _≤_, _<_}
+use Prim.Native.Nat.{ℕ, suc, _≤_, _<_, zero-le}
 use mathlib.Core.Path.{_≡_, sym, ap, _∙_, subst}
 use mathlib.Core.Bool.{Bool, true, false}
 use mathlib.Core.Option.{none}
+use mathlib.Core.Logic.{_≢_}
 use mathlib.Core.List.{List, [], _∷_, _++_, map, map-append, append-assoc}
 use native.Mathlib.Omega.{arith}
 use lib.ListN.{length, take, replicate}
@@ -15,9 +16,12 @@ use Rattle.theory.specs.Layout.{nodesIn}
 use Rattle.theory.specs.World.{modelOf, ForcesEach, firstWorld}
 use Rattle.theory.specs.Kripke.{Lawful, frame, forces}
 use Rattle.theory.specs.Written.{assumptions}
+use Rattle.theory.specs.Meter.{Lack, Steps, Names, Formulas, Terms, Contexts, Levels}
+use Rattle.theory.specs.Refusal.{Fault, Sizes, BadFormula, BadAssumption, BadNames, BadGoal, NoRoom, BadTerm, BadFile}
+use Rattle.theory.specs.Refusal.{faultNumber, lackNumber}
 use Rattle.theory.specs.Call.{Claim, searchLimits, givenWords, givenBook, refusal, searched, Outcome, After, recordsAfter, unchanged}
-use Rattle.theory.specs.Call.{called}
-use Rattle.theory.specs.Owed.{FitIn, Passes}
+use Rattle.theory.specs.Call.{numbers, called}
+use Rattle.theory.specs.Owed.{FitIn, Lent, Passes}
 use Rattle.theory.proofs.Forms.{ext-length}
 use Rattle.theory.proofs.Words.{encodes}
 use Rattle.theory.proofs.Finite.{countermodel}
@@ -25,9 +29,9 @@ use Rattle.theory.proofs.Verdict.{unprovable}
 use Rattle.theory.proofs.NamesApart.{names-apart}
 use Rattle.theory.proofs.Room.{Kept}
 use Rattle.theory.proofs.Passing.{not-both, passes}
-use Rattle.theory.proofs.Called.{Proves, Fails, Told, t-proved, t-unprovable, t-shortage, t-refused, told}
+use Rattle.theory.proofs.Called.{Proves, Fails, RunsShort, Told, t-proved, t-unprovable, t-shortage, t-refused, told}
 use Rattle.theory.proofs.Slices.{ProvedWithin, proved-within, failed-within, short-within, proved-state, proved-words, proved-clear}
-use Rattle.theory.proofs.Slices.{back-clear, back-front}
+use Rattle.theory.proofs.Slices.{back-clear, back-front, steps-at-limit}
 use Rattle.theory.proofs.LayoutLaws.{unruled}
 use Rattle.theory.proofs.Returned.{sound-search, nodes-decode, term-decode, names-returned}
 
@@ -107,6 +111,55 @@ numbers-fit x = go (told x)
     go (t-unprovable h) = let w = failed-within x h in (w .0, w .1, h .formulas, h .terms)
     go (t-shortage h) = short-within x h
     go (t-refused h) = tt
+
+-- of the numbers that come back: steps, indices and fills are within what was lent
+pub numbers-lent : (x : Claim) → Lent x (numbers ((called x) .outcome))
+unfolding numbers
+numbers-lent x = go (told x)
+  where
+    go : {o : Outcome} → Told x o → Lent x (numbers o)
+    go (t-proved {r} {n} {u} {f} {t} h) =
+        let w : ProvedWithin x n u f t = proved-within x h in
+        record { steps = w .steps; indices = w .indices; formulas = w .formulas; terms = w .terms }
+    go (t-unprovable {n} {u} {f} {t} h) =
+        let w = failed-within x h in
+        record {
+          steps = w .0;
+          indices = w .1;
+          formulas = omega (arith, h .formulas, (passes x (h .passed)) .given);
+          terms = omega (arith, h .terms);
+        }
+    go (t-shortage h) = record { steps = short-within x h; indices = zero-le; formulas = zero-le; terms = zero-le }
+    go (t-refused h) = record { steps = zero-le; indices = zero-le; formulas = zero-le; terms = zero-le }
+
+-- 6 is a shortage of steps and nothing else, and comes with the limit
+pub number-six : (x : Claim) → (numbers ((called x) .outcome)) .number ≡ 6 → (numbers ((called x) .outcome)) .steps ≡ x .stepLimit
+unfolding numbers faultNumber lackNumber
+number-six x = go (told x)
+  where
+    no-fault : (f : Fault) → faultNumber f ≢ 6
+    no-fault Sizes e = omega arith
+    no-fault BadFormula e = omega arith
+    no-fault BadAssumption e = omega arith
+    no-fault BadNames e = omega arith
+    no-fault BadGoal e = omega arith
+    no-fault NoRoom e = omega arith
+    no-fault BadTerm e = omega arith
+    no-fault BadFile e = omega arith
+
+    lack : (l : Lack) {n : ℕ} → lackNumber l ≡ 6 → RunsShort x l n → n ≡ x .stepLimit
+    lack Steps e h = steps-at-limit x h
+    lack Names e h = absurd (let z : ⊥ = omega arith in z)
+    lack Formulas e h = absurd (let z : ⊥ = omega arith in z)
+    lack Terms e h = absurd (let z : ⊥ = omega arith in z)
+    lack Contexts e h = absurd (let z : ⊥ = omega arith in z)
+    lack Levels e h = absurd (let z : ⊥ = omega arith in z)
+
+    go : {o : Outcome} → Told x o → (numbers o) .number ≡ 6 → (numbers o) .steps ≡ x .stepLimit
+    go (t-proved h) e = absurd (let z : ⊥ = omega arith in z)
+    go (t-unprovable h) e = absurd (let z : ⊥ = omega arith in z)
+    go (t-shortage {l} h) e = lack l e h
+    go (t-refused {f} h) e = absurd (no-fault f e)
 
 -- the given words stand where they stood, whatever the outcome
 pub given-stands : (x : Claim) → take (x .count) ((called x) .words) ≡ givenWords x

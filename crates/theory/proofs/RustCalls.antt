@@ -23,14 +23,15 @@ use Rattle.theory.specs.Status.{secondClaim, secondOutcome, goalIsOpen, 
 use Rattle.theory.specs.Owed.{Passes, asksFor}
 use Rattle.theory.specs.RustTerm.{ProofTerm, named}
 use Rattle.theory.specs.RustText.{houseText}
-use Rattle.theory.specs.RustProver.{Returned, Some, None, panicked}
+use Rattle.theory.specs.RustProver.{Returned, Some, None, overflow, panicked}
 use Rattle.theory.specs.RustCall.{paired, assumptionsOf, goalOf, Returns, unlessPast, inRust, UpTo363}
 use Rattle.theory.specs.RustStatus.{isSome, byNegative, notSolvable, bySolvable, solvableStatus, Gives}
 use Rattle.theory.proofs.Passing.{passes}
 use Rattle.theory.proofs.Called.{Proves, Fails, Told, t-proved, t-unprovable, t-shortage, t-refused, told, search-answers}
 use Rattle.theory.proofs.Returned.{term-decode}
 use Rattle.theory.proofs.StatusCalls.{asked-status, second-goal}
-use Rattle.theory.proofs.RustWhole.{lacks, search-same}
+use Rattle.theory.proofs.Verdict.{lacks}
+use Rattle.theory.proofs.RustWhole.{search-same}
 
 -- the house text of a term is that of the Rust's, whose names are the bytes
 pub text-named : (names : List (List ℕ)) (t : Term) → termText names t ≡ houseText (named names t)
@@ -87,13 +88,13 @@ pub unpast : {prop : Form} {as′ : List (List ℕ × Form)} {r : Returned} (u :
     Returns prop as′ r
 unfolding unlessPast
 unpast {prop} {as′} {r} u h x =
-    subst (λ (b : Bool). Returns prop as′ (elim b as (λ z. Returned) [ true ↦ r | false ↦ panicked ])) (le-leb u 364 h) x
+    subst (λ (b : Bool). Returns prop as′ (elim b as (λ z. Returned) [ true ↦ r | false ↦ panicked overflow ])) (le-leb u 364 h) x
 
 pub overpast : {prop : Form} {as′ : List (List ℕ × Form)} (r : Returned) (u : ℕ) → 364 < u → Returns prop as′ (unlessPast u r) →
-    Returns prop as′ panicked
+    Returns prop as′ (panicked overflow)
 unfolding unlessPast
 overpast {prop} {as′} r u h x =
-    subst (λ (b : Bool). Returns prop as′ (elim b as (λ z. Returned) [ true ↦ r | false ↦ panicked ])) (lt-leb u 364 h) x
+    subst (λ (b : Bool). Returns prop as′ (elim b as (λ z. Returned) [ true ↦ r | false ↦ panicked overflow ])) (lt-leb u 364 h) x
 
 -- the status by what the Rust returns to the first question, and to the second
 module _ {prop : Form} where

@@ -21,10 +21,11 @@ use Rattle.theory.specs.Owed.{asksFor}
 use Rattle.theory.specs.RustNames.{generate}
 use Rattle.theory.specs.RustTerm.{ProofTerm, named}
 use Rattle.theory.specs.RustText.{houseText}
-use Rattle.theory.specs.RustProver.{Returned, Some, None, panicked, unended}
+use Rattle.theory.specs.RustProver.{Returned, Some, None, overflow, panicked, unended}
 use Rattle.theory.specs.RustCall.{paired, assumptionsOf, goalOf, Returns, inRust, UpTo363}
 use Rattle.theory.specs.RustStatus.{Gives}
 use Rattle.theory.proofs.Written.{has-answer}
+use Rattle.theory.proofs.Verdict.{never-short}
 use Rattle.theory.proofs.WriterPass.{written-text}
 use Rattle.theory.proofs.Called
 use Rattle.theory.proofs.RustSpelling
@@ -38,30 +39,31 @@ rust-spells = RustSpelling.spells-alike
 pub rust-overflows : generate 364 ≡ none
 rust-overflows = RustSpelling.panics-at
 
+-- of a good book, a goal and at most 64 assumptions in it, and as many names as assumptions
 module _ (names : List (List ℕ)) (ws : Book) (hs : List ℕ) (g : ℕ) (good : Good ws) (ins : AllIn ws hs) (in-g : g < length ws)
     (as-many : length names ≡ length hs) (few : length hs ≤ 64) where
   -- what the search without limits answers, the Rust returns: the same verdict, the same named term and the same number of indices. Where
-  -- an index passes 363 it panics, and only there
+  -- an index passes 363 it panics by an overflow, and only there; the assertion of its search never fails
   pub same-as-rust : {a : Answer} → Answers boundless names ws hs g a →
       Returns (form ws g) (paired names (map (form ws) hs)) (inRust names a)
   same-as-rust x =
-      RustWhole.search-same boundless names ws hs g good ins in-g as-many few x (RustWhole.never-short names ws hs g x)
+      RustWhole.search-same boundless names ws hs g good ins in-g as-many few x (never-short names ws hs g x)
 
-  -- so does every answer under limits that is no shortage
+  -- it returns too what the search answers under limits, where that is no shortage
   pub same-limited : (L : Limits) {a : Answer} → Answers L names ws hs g a → ¬ IsShort a →
       Returns (form ws g) (paired names (map (form ws) hs)) (inRust names a)
   same-limited L x n = RustWhole.search-same L names ws hs g good ins in-g as-many few x n
 
-  -- the Rust ends, whatever it is asked
+  -- on such a goal and such assumptions the Rust ends
   pub rust-ends : (r : Returned) × Returns (form ws g) (paired names (map (form ws) hs)) r × (r ≢ unended)
   rust-ends =
       let a = has-answer boundless names ws hs g good ins in-g in (
         inRust names (a .0),
         same-as-rust (a .1),
-        RustWhole.in-rust-ends names (a .0) (RustWhole.never-short names ws hs g (a .1)) (a .1 .finished),
+        RustWhole.in-rust-ends names (a .0) (never-short names ws hs g (a .1)) (a .1 .finished),
       )
 
--- and returns one thing only
+-- whatever the Rust is asked, it comes to one thing at most
 pub rust-once : {prop : Form} {as′ : List (List ℕ × Form)} {r r′ : Returned} → Returns prop as′ r → Returns prop as′ r′ → r ≡ r′
 rust-once = RustWhole.returns-one
 
@@ -76,11 +78,13 @@ module _ (x : Claim) where
   pub same-unprovable : {n u f t : ℕ} → (called x) .outcome ≡ unprovable n u f t → u ≤ 364 → Returns (goalOf x) (assumptionsOf x) (None u)
   same-unprovable {u} e l = RustCalls.unpast u l (RustCalls.failed-same x (Called.fails x e))
 
-  -- one with an index past 363: the Rust panics
-  pub past-proved : {r n u f t : ℕ} → (called x) .outcome ≡ proved r n u f t → 364 < u → Returns (goalOf x) (assumptionsOf x) panicked
+  -- one of either with an index past 363: the Rust panics, since the power of a name overflows
+  pub past-proved : {r n u f t : ℕ} → (called x) .outcome ≡ proved r n u f t → 364 < u →
+      Returns (goalOf x) (assumptionsOf x) (panicked overflow)
   past-proved {u} e l = RustCalls.overpast _ u l (RustCalls.proved-same x (Called.proves x e))
 
-  pub past-unprovable : {n u f t : ℕ} → (called x) .outcome ≡ unprovable n u f t → 364 < u → Returns (goalOf x) (assumptionsOf x) panicked
+  pub past-unprovable : {n u f t : ℕ} → (called x) .outcome ≡ unprovable n u f t → 364 < u →
+      Returns (goalOf x) (assumptionsOf x) (panicked overflow)
   past-unprovable {u} e l = RustCalls.overpast _ u l (RustCalls.failed-same x (Called.fails x e))
 
   -- and what the writer writes of a Proved call is the house text of the Rust's term

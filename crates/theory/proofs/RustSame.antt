@@ -1,5 +1,5 @@
 -- The search beside the Rust's: nodes beside terms with names as bytes, records beside type judgments, answers beside what is returned; and
--- that charges, premises, tries and names keep them side by side: past index 363 the Rust panics. Assumes nothing.
+-- that charges, premises, tries and names keep them side by side: past index 363 the Rust panics, by an overflow. Assumes nothing.
 use Prim.Native.Nat.{ℕ, zero, suc, _≤_, _<_}
 use mathlib.Core.Path.{_≡_, refl, sym, ap, ap₂, _∙_, subst}
 use mathlib.Core.Bool.{Bool, true, false}
@@ -20,7 +20,8 @@ use Rattle.theory.specs.Search.{close}
 use Rattle.theory.specs.RustNames.{generate}
 use Rattle.theory.specs.RustTerm as Rust
 use Rattle.theory.specs.RustTerm.{ProofTerm, TypeJudgment, named}
-use Rattle.theory.specs.RustProver.{Returned, Some, None, question, ifLetSome, panicked, Call, generated, generateIdentifier}
+use Rattle.theory.specs.RustProver.{Returned, Some, None, question, ifLetSome, overflow, panicked, Call, generated}
+use Rattle.theory.specs.RustProver.{generateIdentifier}
 use Rattle.theory.proofs.Forms.{ext-refl, At, at-ext}
 use Rattle.theory.proofs.Terms.{term-keeps, term-book, nodes-more, node-new}
 use Rattle.theory.proofs.Derive.{Sane, Grows, grows-trans, Read, read-term, skip-above}
@@ -28,10 +29,10 @@ use Rattle.theory.proofs.Charges.{made, noded, restart, at-charge, at-n
 use Rattle.theory.proofs.Naming.{fresh-free}
 use Rattle.theory.proofs.RustSpelling.{spells-alike, panics-at}
 
--- the Rust's r′ at idx v comes to r at idx v′: where no index past 363 was used on the way it goes on as r, and else it panics
+-- the Rust's r′ at idx v comes to r at idx v′: where no index past 363 was used on the way it goes on as r, and else it overflows
 pub record Follows (v v′ : ℕ) (r′ r : Returned) : Type 0 where
   pub on : v′ ≤ 364 → r′ ≡ r
-  pub over : v ≤ 364 → 364 < v′ → r′ ≡ panicked
+  pub over : v ≤ 364 → 364 < v′ → r′ ≡ panicked overflow
 
 pub follows-eq : {v : ℕ} {r′ r : Returned} → r′ ≡ r → Follows v v r′ r
 follows-eq p = record { on = λ h. p; over = λ h l. absurd (let z : ⊥ = omega arith in z) }
@@ -39,13 +40,13 @@ follows-eq p = record { on = λ h. p; over = λ h l. absurd (let z : ⊥ = omega
 pub follows-trans : {v v′ v″ : ℕ} {a b c : Returned} → v′ ≤ v″ → Follows v v′ a b → Follows v′ v″ b c → Follows v v″ a c
 follows-trans {v} {v′} {v″} {a} l f g = record { on = λ h. f .on (le-trans l h) ∙ g .on h; over = λ h m. go (decLe v′ 364) h m }
   where
-    go : Dec (v′ ≤ 364) → v ≤ 364 → 364 < v″ → a ≡ panicked
+    go : Dec (v′ ≤ 364) → v ≤ 364 → 364 < v″ → a ≡ panicked overflow
     go (yes k) h m = f .on k ∙ g .over k m
     go (no n) h m = f .over h (let k : 364 < v′ = omega arith in k)
 
 -- what goes on after a call goes on likewise, where it hands a panic on
-pub follows-ap : (k : Returned → Returned) → k panicked ≡ panicked → {v v′ : ℕ} {r′ r : Returned} → Follows v v′ r′ r →
-    Follows v v′ (k r′) (k r)
+pub follows-ap : (k : Returned → Returned) → k (panicked overflow) ≡ panicked overflow → {v v′ : ℕ} {r′ r : Returned} →
+    Follows v v′ r′ r → Follows v v′ (k r′) (k r)
 follows-ap k e f = record { on = λ h. ap k (f .on h); over = λ h l. ap k (f .over h l) ∙ e }
 
 -- one turn of the loop over forbidden names: index 363 at most is spelled, and index 364 panics
@@ -54,14 +55,14 @@ after-turn taken n i k b = elim b [ true ↦ generated taken n (suc i) k | false
 
 turn-out : (taken : List (List ℕ)) (n i : ℕ) (k : List ℕ → ℕ → Returned) → Option (List ℕ) → Returned
 turn-out taken n i k o =
-    elim o [ none ↦ panicked | some x ↦ elim (among x taken) [ true ↦ generated taken n (suc i) k | false ↦ k x (suc i) ] ]
+    elim o [ none ↦ panicked overflow | some x ↦ elim (among x taken) [ true ↦ generated taken n (suc i) k | false ↦ k x (suc i) ] ]
 
 turn : (taken : List (List ℕ)) (n i : ℕ) (k : List ℕ → ℕ → Returned) → i < 364 →
     generated taken (suc n) i k ≡ after-turn taken n i k (among (spell i) taken)
 unfolding generated after-turn turn-out
 turn taken n i k h = ap (turn-out taken n i k) (spells-alike i h)
 
-last-turn : (taken : List (List ℕ)) (n i : ℕ) (k : List ℕ → ℕ → Returned) → i ≡ 364 → generated taken (suc n) i k ≡ panicked
+last-turn : (taken : List (List ℕ)) (n i : ℕ) (k : List ℕ → ℕ → Returned) → i ≡ 364 → generated taken (suc n) i k ≡ panicked overflow
 unfolding generated turn-out
 last-turn taken n i k p = ap (turn-out taken n i k) (ap generate p ∙ panics-at)
 
@@ -86,18 +87,20 @@ loop-alike taken (suc n) i k f h =
 
 -- else it comes to index 364 and panics
 loop-panics : (taken : List (List ℕ)) (n i : ℕ) (k : List ℕ → ℕ → Returned) → i ≤ 364 → 364 ≤ skip n taken i →
-    generated taken (suc n) i k ≡ panicked
+    generated taken (suc n) i k ≡ panicked overflow
 unfolding skip after-turn
 loop-panics taken zero i k l h = last-turn taken zero i k (let p : i ≡ 364 = omega arith in p)
 loop-panics taken (suc n) i k l h = start (decLe 364 i)
     (λ m. turn taken (suc n) i k m ∙ go (among (spell i) taken) m h (loop-panics taken n (suc i) k m))
   where
-    start : Dec (364 ≤ i) → (i < 364 → generated taken (suc (suc n)) i k ≡ panicked) → generated taken (suc (suc n)) i k ≡ panicked
+    start : Dec (364 ≤ i) → (i < 364 → generated taken (suc (suc n)) i k ≡ panicked overflow) →
+        generated taken (suc (suc n)) i k ≡ panicked overflow
     start (yes m) f = last-turn taken (suc n) i k (let p : i ≡ 364 = omega arith in p)
     start (no m) f = f (let p : i < 364 = omega arith in p)
 
     go : (b : Bool) → i < 364 → 364 ≤ elim b as (λ z. ℕ) [ true ↦ skip n taken (suc i) | false ↦ i ] →
-        (364 ≤ skip n taken (suc i) → generated taken (suc n) (suc i) k ≡ panicked) → after-turn taken (suc n) i k b ≡ panicked
+        (364 ≤ skip n taken (suc i) → generated taken (suc n) (suc i) k ≡ panicked overflow) →
+        after-turn taken (suc n) i k b ≡ panicked overflow
     go true m h ih = ih h
     go false m h ih = absurd (let z : ⊥ = omega arith in z)
 

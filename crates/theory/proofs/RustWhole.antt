@@ -12,18 +12,15 @@ use borrow.Author.Tests.{leb-true, leb-false}
 use Rattle.theory.specs.Form.{Form, Book, form, Good}
 use Rattle.theory.specs.Term.{ident}
 use Rattle.theory.specs.Names.{skipped}
-use Rattle.theory.specs.World.{Tree}
-use Rattle.theory.specs.Meter.{fits, limited, boundless, Limits, Entry, State, Answer, found, failed, short, unfinished, byRight}
-use Rattle.theory.specs.Meter.{andThen, attempt, fail, lacking, charge, spend, enter}
+use Rattle.theory.specs.Meter.{limited, Limits, Entry, State, Answer, found, failed, short, unfinished, byRight}
 use Rattle.theory.specs.Log.{IsShort, is-short}
 use Rattle.theory.specs.Search.{entry, run, idents, pushed, first, given, whole, prove}
 use Rattle.theory.specs.Written.{AllIn, Answers}
 use Rattle.theory.specs.RustTerm as Rust
 use Rattle.theory.specs.RustTerm.{TypeJudgment, judgment}
-use Rattle.theory.specs.RustProver.{Returned, panicked, unended, called, assumed, proveWithAssumptions}
+use Rattle.theory.specs.RustProver.{Returned, overflow, panicked, unended, called, assumed, proveWithAssumptions}
 use Rattle.theory.specs.RustCall.{paired, Returns, unlessPast, inRust}
 use Rattle.theory.proofs.Forms.{At, at-form}
-use Rattle.theory.proofs.Alike.{Alike, alike}
 use Rattle.theory.proofs.Charges.{noded, at-nodes}
 use Rattle.theory.proofs.Depth.{one-reading}
 use Rattle.theory.proofs.Derive.{Sane}
@@ -65,7 +62,7 @@ past : {u : ℕ} {r r₀ : Returned} → Follows 0 u r r₀ → r ≡ unlessPast
 unfolding unlessPast
 past {u} {r} {r₀} f = go (leb u 364) refl
   where
-    go : (b : Bool) → leb u 364 ≡ b → r ≡ elim b as (λ z. Returned) [ true ↦ r₀ | false ↦ panicked ]
+    go : (b : Bool) → leb u 364 ≡ b → r ≡ elim b as (λ z. Returned) [ true ↦ r₀ | false ↦ panicked overflow ]
     go true p = f .on (leb-true u 364 p)
     go false p = f .over zero-le (leb-false u 364 p)
 
@@ -157,61 +154,12 @@ pub returns-one : {prop : Form} {as′ : List (List ℕ × Form)} {r r′ : Retu
 returns-one x y =
     sym (x .is (x .depth + y .depth) (omega arith)) ∙ y .is (x .depth + y .depth) (omega arith)
 
--- an answer that is a shortage
-abbrev pub Lacks : Answer → Type 0
-Lacks (found t s) = ⊥
-Lacks (failed u n m) = ⊥
-Lacks (short l n) = Unit {0}
-Lacks unfinished = ⊥
-
-pub lacks : {a : Answer} → IsShort a → Lacks a
-lacks is-short = tt
-
--- without limits there is none
-premise-none : (a : Answer) (k : ℕ → State → Answer) → ¬ IsShort a → ((t : ℕ) (s : State) → ¬ IsShort (k t s)) → ¬ IsShort (andThen a k)
-unfolding andThen
-premise-none (found t s) k p h = h t s
-premise-none (failed u n m) k p h = p
-premise-none (short l n) k p h = p
-premise-none unfinished k p h = p
-
-try-none : (b : State) (a : Answer) (k : ℕ → State → Answer) (o : Tree → State → Answer) → ¬ IsShort a →
-    ((t : ℕ) (s : State) → ¬ IsShort (k t s)) → ((m : Tree) (s : State) → ¬ IsShort (o m s)) → ¬ IsShort (attempt b a k o)
-unfolding attempt
-try-none b (found t s) k o p h f = h t s
-try-none b (failed u n m) k o p h f = f m _
-try-none b (short l n) k o p h f = p
-try-none b unfinished k o p h f = p
-
-none-short : Alike (limited boundless) (limited boundless)
-unfolding enter charge lacking spend fits fail
-none-short = record {
-  Rel = λ a b. ¬ IsShort a;
-  Reached = λ s. Unit {0};
-  Asked = λ q. Unit {0};
-  fewer = λ q q′ l e i. tt;
-  on-found = λ t s r i. lacks i;
-  on-fail = λ m s r i. lacks i;
-  on-unfinished = λ i. lacks i;
-  on-step = λ s k k′ r h. h _ tt;
-  on-charge = λ u ws ns q s k k′ r v h. h _ tt tt;
-  on-nodes = λ ns s k k′ r h. h _ tt;
-  on-premise = λ x y k k′ p h. premise-none x k p (λ t s. h t s tt);
-  on-try = λ s x y k k′ o o′ r p h f. try-none s x k o p (λ t s. h t s tt) (λ m s. f m s tt);
-}
-
-pub never-short : (names : List (List ℕ)) (ws : Book) (hs : List ℕ) (g : ℕ) {a : Answer} → Answers boundless names ws hs g a → ¬ IsShort a
-unfolding none-short prove
-never-short names ws hs g {a} x =
-    subst (λ (b : Answer). ¬ IsShort b) (x .is)
-    (alike (limited boundless) (limited boundless) none-short (skipped names) ws hs g tt tt (x .depth))
-
 -- an answer that is no shortage and is finished is a return
 unless-ends : (u : ℕ) (r : Returned) → r ≢ unended → unlessPast u r ≢ unended
 unfolding unlessPast
 unless-ends u r n = go (leb u 364)
   where
-    go : (b : Bool) → elim b as (λ z. Returned) [ true ↦ r | false ↦ panicked ] ≢ unended
+    go : (b : Bool) → elim b as (λ z. Returned) [ true ↦ r | false ↦ panicked overflow ] ≢ unended
     go true p = n p
     go false p = let z : _≡_ {A = ℕ} 0 1 = cc in omega arith
 

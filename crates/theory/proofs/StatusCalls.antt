@@ -1,4 +1,4 @@
--- The status: its second claim is never refused, and what each status says of the goal. Assumes nothing.
+-- The status: its second claim is never refused, its numbers, and what each status says of the goal. Assumes nothing.
 use Prim.Native.Nat.{ℕ, suc, _+_, _-_, _≤_, _<_}
 use mathlib.Core.Path.{_≡_, refl, sym, ap, ap₂, _∙_, subst}
 use mathlib.Core.Bool.{Bool, true, false, _&&_}
@@ -17,10 +17,10 @@ use Rattle.theory.specs.Meter.{Formulas}
 use Rattle.theory.specs.Refusal.{Fault, Sizes, BadFormula, BadAssumption, BadNames, BadGoal, Refused, formulaSizes, termSizes}
 use Rattle.theory.specs.Refusal.{workSizes, tooMany, outsideFrom, badAssumption, badGoal}
 use Rattle.theory.specs.Call.{rightSizes, givenWords, givenBook, refusal, Outcome, proved, unprovable, shortage, refused, After}
-use Rattle.theory.specs.Call.{unchanged, called}
+use Rattle.theory.specs.Call.{numbers, unchanged, called}
 use Rattle.theory.specs.Status.{Unsolvable, Status, settled, ranShort, rejected, refuted, judged, Inquiry, firstClaim, secondClaim}
-use Rattle.theory.specs.Status.{secondOutcome, goalIsOpen, Asked, cleanedUp, leftBy, asked}
-use Rattle.theory.specs.Owed.{asksFor, Says, Passes}
+use Rattle.theory.specs.Status.{statusNumbers, secondOutcome, goalIsOpen, Asked, cleanedUp, leftBy, asked}
+use Rattle.theory.specs.Owed.{Decided, isProved, isUnprovable, asksFor, Says, Passes}
 use Rattle.theory.proofs.Tests.{and-T}
 use Rattle.theory.proofs.Words.{shape-word, words-pass, passes-append}
 use Rattle.theory.proofs.Forms.{snoc-length, ext-by, At, at-ext, at-form, at-new, good-more, imp-new}
@@ -146,6 +146,40 @@ asked-status x = go (judged ((called (firstClaim x)) .outcome) (goalIsOpen x) (s
     go (settled v) = refl
     go (ranShort l n) = refl
     go (rejected f i) = refl
+
+-- the numbers of a status: those of the first search where that is no Proved and no Unprovable, else all are 0
+pub status-numbers : (x : Inquiry) → ¬ Decided ((called (firstClaim x)) .outcome) →
+    statusNumbers ((asked x) .status) ≡ numbers ((called (firstClaim x)) .outcome)
+unfolding statusNumbers judged
+status-numbers x n = ap statusNumbers (asked-status x) ∙ go ((called (firstClaim x)) .outcome) n
+  where
+    go : (o : Outcome) → ¬ Decided o → statusNumbers (judged o (goalIsOpen x) (secondOutcome x)) ≡ numbers o
+    go (proved r n u f t) d = absurd (d isProved)
+    go (unprovable n u f t) d = absurd (d isUnprovable)
+    go (shortage l n) d = refl
+    go (refused f i) d = refl
+
+pub verdict-numbers : (x : Inquiry) → Decided ((called (firstClaim x)) .outcome) →
+    statusNumbers ((asked x) .status) ≡ record { number = 0; place = 0; root = 0; steps = 0; indices = 0; formulas = 0; terms = 0 }
+unfolding statusNumbers judged refuted
+verdict-numbers x d = ap statusNumbers (asked-status x) ∙ go ((called (firstClaim x)) .outcome) d
+  where
+    second : (o : Outcome) →
+        statusNumbers (refuted o) ≡ record { number = 0; place = 0; root = 0; steps = 0; indices = 0; formulas = 0; terms = 0 }
+    second (proved r n u f t) = refl
+    second (unprovable n u f t) = refl
+    second (shortage l n) = refl
+    second (refused f i) = refl
+
+    verdict : (b : Bool) → statusNumbers (elim b [ false ↦ settled Unsolvable | true ↦ refuted (secondOutcome x) ]) ≡
+        record { number = 0; place = 0; root = 0; steps = 0; indices = 0; formulas = 0; terms = 0 }
+    verdict true = second (secondOutcome x)
+    verdict false = refl
+
+    go : (o : Outcome) → Decided o → statusNumbers (judged o (goalIsOpen x) (secondOutcome x)) ≡
+        record { number = 0; place = 0; root = 0; steps = 0; indices = 0; formulas = 0; terms = 0 }
+    go (proved r n u f t) d = refl
+    go (unprovable n u f t) d = verdict (goalIsOpen x)
 
 module _ (x : Inquiry) where
   -- the second search: proved, it derives the negation; else it says nothing

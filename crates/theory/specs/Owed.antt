@@ -13,7 +13,8 @@ use Rattle.theory.specs.Written.{AllIn}
 use Rattle.theory.specs.Term.{Term, Derives}
 use Rattle.theory.specs.Layout.{nodeWidth}
 use Rattle.theory.specs.Refusal.{Fault, Sizes, BadFormula, BadAssumption, BadNames, BadGoal, NoRoom, BadTerm, BadFile, badAssumption}
-use Rattle.theory.specs.Call.{Claim, rightSizes, givenWords, givenBook, Outcome, proved, unprovable, shortage, refused, After, called}
+use Rattle.theory.specs.Call.{Claim, rightSizes, givenWords, givenBook, Outcome, proved, unprovable, shortage, refused, Numbers}
+use Rattle.theory.specs.Call.{After, called}
 use Rattle.theory.specs.File.{File}
 use Rattle.theory.specs.Status.{Solvable, Unsolvable, Unknown, Status, settled, ranShort, rejected, Inquiry, firstClaim, goalIsOpen}
 
@@ -78,6 +79,13 @@ FitIn x (proved r n u f t) =
 FitIn x (unprovable n u f t) = (n ≤ x .stepLimit) × (u ≤ 4096) × (f ≡ x .count) × (t ≡ 0)
 FitIn x (shortage l n) = n ≤ x .stepLimit
 FitIn x (refused f i) = Unit {0}
+
+-- the same of the numbers that come back, whatever the outcome: steps, indices and fills
+pub record Lent (x : Claim) (n : Numbers) : Type 0 where
+  pub steps : n .steps ≤ x .stepLimit
+  pub indices : n .indices ≤ 4096
+  pub formulas : n .formulas ≤ length (x .words)
+  pub terms : n .terms * nodeWidth ≤ length (x .terms)
 
 -- Proved or Unprovable
 pub data Decided : Outcome → Type 0 where

@@ -11,7 +11,7 @@ use Rattle.theory.specs.NameText.{namesIn}
 use Rattle.theory.specs.Meter.{Answer, found, failed, short, unfinished}
 use Rattle.theory.specs.Call.{Claim, givenBook, Outcome, proved, unprovable, shortage, refused}
 use Rattle.theory.specs.RustTerm.{named}
-use Rattle.theory.specs.RustProver.{Returned, Some, None, panicked, unended, proveWithAssumptions}
+use Rattle.theory.specs.RustProver.{Returned, Some, None, overflow, panicked, unended, proveWithAssumptions}
 
 -- names and formulas side by side, in order
 unfoldable pub paired : List (List ℕ) → List Form → List (List ℕ × Form)
@@ -33,7 +33,7 @@ pub record Returns (prop : Form) (assumptions : List (List ℕ × Form)) (r : Re
 
 -- "From 364 on the Rust's power overflows": r, where u indices are used and none of them passes 363
 unfoldable pub unlessPast : ℕ → Returned → Returned
-unlessPast u r = elim (leb u 364) [ true ↦ r | false ↦ panicked ]
+unlessPast u r = elim (leb u 364) [ true ↦ r | false ↦ panicked overflow ]
 
 -- an answer in the Rust's words, names as bytes; a shortage is none
 unfoldable pub inRust : List (List ℕ) → Answer → Returned

@@ -1,5 +1,5 @@
--- The Rust's `identifier_generator.rs` and `Prover::generate_identifier` as definitions, line by line, as a 64-bit build with overflow
--- checks runs them. Each line of the Rust stands above its own. Assumes nothing.
+-- `generate` of the Rust's `identifier_generator.rs` as a definition, line by line, as a 64-bit build with overflow checks runs it. Each
+-- line of the Rust stands above its own, but `self.idx += 1`, which stands in RustProver with `generate_identifier`. Assumes nothing.
 use Prim.Native.Nat.{ℕ, zero, suc, _+_, _%_, _^_}
 use mathlib.Core.Bool.{true, false}
 use mathlib.Core.Option.{Option, none, some}
@@ -40,7 +40,7 @@ unfoldable pub turned : Option (List ℕ) → Option (List ℕ)
 turned none = none
 turned (some identifier) = some (reverse identifier)
 
--- pub fn generate(&mut self) -> String: the name that idx gives; none: it panics. (`self.idx += 1` stands in generateIdentifier)
+-- pub fn generate(&mut self) -> String: the name that idx gives; none: it panics, since a power overflows
 unfoldable pub generate : ℕ → Option (List ℕ)
 generate idx =
     -- let num_digits = f32::floor(self.idx as f32 / alphabet_length as f32) as usize + 1;

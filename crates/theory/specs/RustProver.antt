@@ -13,26 +13,32 @@ use Rattle.theory.specs.RustTerm.{ProofTerm, Ident, Pair, ProjectFst, Pr
 use Rattle.theory.specs.RustTerm.{TypeAscription, UnitTerm, TypeJudgment, judgment, Sequent, withNewGoal, appendOrdered}
 use Rattle.theory.specs.RustTerm.{appendUnordered, remove, find}
 
--- what a call of the prover comes to: Some(term) or None with the generator's idx; a panic, where a name's power overflows or the assertion
--- fails; unended: the bound on the depth of calls was too small, which says nothing of the Rust
+-- the panics that the definition has: the power of a name overflows in the generator, and the assertion of search fails. Those that stand
+-- behind a match that rules them out have no clause
+pub data Panic : Type 0 where
+  overflow : Panic
+  assertion : Panic
+
+-- what a call of the prover comes to: Some(term) or None with the generator's idx; a panic; unended: the bound on the depth of calls was
+-- too small, which says nothing of the Rust
 pub data Returned : Type 0 where
   Some : ProofTerm → ℕ → Returned
   None : ℕ → Returned
-  panicked : Returned
+  panicked : Panic → Returned
   unended : Returned
 
 -- let term = ..?;
 unfoldable pub question : Returned → (ProofTerm → ℕ → Returned) → Returned
 question (Some t idx) k = k t idx
 question (None idx) k = None idx
-question panicked k = panicked
+question (panicked p) k = panicked p
 question unended k = unended
 
 -- if let Some(term) = .. { return .. }, and what stands after it
 unfoldable pub ifLetSome : Returned → (ProofTerm → ℕ → Returned) → (ℕ → Returned) → Returned
 ifLetSome (Some t idx) k after = k t idx
 ifLetSome (None idx) k after = after idx
-ifLetSome panicked k after = panicked
+ifLetSome (panicked p) k after = panicked p
 ifLetSome unended k after = unended
 
 -- prove_right, prove_left and search call one another through a function of this type
@@ -51,7 +57,7 @@ module _ (forbidden : List (List ℕ)) where
   generated zero idx k = unended
   generated (suc turns) idx k =
       elim (generate idx) [
-        | none ↦ panicked
+        | none ↦ panicked overflow
         | some ident ↦ elim (among ident forbidden) [ true ↦ generated turns (suc idx) k | false ↦ k ident (suc idx) ]
       ]
 
@@ -287,7 +293,7 @@ module _ (forbidden : List (List ℕ)) where
   -- fn search(&mut self, sequent: Sequent): assert!(sequent.ordered_ctx.is_empty(), "Do not search when ordered context is not empty.");
   unfoldable pub search′ : Call → Sequent → ℕ → List TypeJudgment → Returned
   search′ call sequent idx [] = afterId call sequent idx (idRule (sequent .unorderedCtx) (sequent .goal))
-  search′ call sequent idx (e ∷ es) = panicked
+  search′ call sequent idx (e ∷ es) = panicked assertion
 
   -- one of the three functions
   unfoldable pub body : Call → Judgement → Sequent → ℕ → Returned

@@ -12,7 +12,7 @@ use Rattle.theory.specs.RustProver.{Returned, Some, None, panicked, unen
 unfoldable pub isSome : Returned → (Bool → Option Verdict) → Option Verdict
 isSome (Some t idx) k = k true
 isSome (None idx) k = k false
-isSome panicked k = none
+isSome (panicked p) k = none
 isSome unended k = none
 
 -- if negative_solvable { return VerificationResultSolvableStatus::Unsolvable; } VerificationResultSolvableStatus::Unknown

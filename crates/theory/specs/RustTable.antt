@@ -12,7 +12,7 @@ use Rattle.theory.specs.RustText.{houseText}
 unfoldable pub shownOf : Returned → List ℕ × ℕ
 shownOf (Some t idx) = (houseText t, idx)
 shownOf (None idx) = (bytes "None", idx)
-shownOf panicked = (bytes "panicked", 0)
+shownOf (panicked p) = (bytes "panicked", 0)
 shownOf unended = (bytes "unended", 0)
 
 -- a case at a depth of 100, which suffices; one that runs short of a limit is left out, since the Rust has none

@@ -24,7 +24,7 @@ pub data ProofTerm : Type 0 where
   TypeAscription : ProofTerm → Form → ProofTerm
   UnitTerm : ProofTerm
 
--- #[derive(PartialEq)] pub enum Prop: ==
+-- `==` of two `Prop`s, whose file is not given: structural equality, as document 01 has it
 unfoldable pub equal : Form → Form → Bool
 equal top top = true
 equal top bot = false
@@ -91,7 +91,7 @@ appendOrdered q e = record { unorderedCtx = q .unorderedCtx; orderedCtx = e ∷ 
 abbrev pub appendUnordered : Sequent → TypeJudgment → Sequent
 appendUnordered q e = record { unorderedCtx = q .unorderedCtx ++ (e ∷ []); orderedCtx = q .orderedCtx; goal = q .goal }
 
--- self.unordered_ctx.remove(i), on a list and on a sequent
+-- `unordered_ctx.remove(i)`, on a list and on a sequent
 unfoldable pub removed : ℕ → List TypeJudgment → List TypeJudgment
 removed i [] = []
 removed zero (e ∷ es) = es
