@@ -8,6 +8,10 @@ import sys
 import tempfile
 import unittest
 
+sys.dont_write_bytecode = True
+sys.path.insert(0, os.path.dirname(os.path.abspath(__file__)))
+from house import made
+
 
 def held(path):
     with open(path) as source:
@@ -117,6 +121,36 @@ class Answers(InFolder):
         link = os.path.join(self.folder, "linked")
         os.symlink(QUAY, link)
         self.assertEqual(ran(WHOLE, quay=link), (0, held(WHOLE[:-6] + ".out"), ""))
+
+
+class Pages(unittest.TestCase):
+    """What the pages say that the program prints."""
+
+    AUDITORS = held(os.path.join(ROOT, "docs", "AUDITORS.md"))
+
+    def printed(self, text):
+        return ran("-", input=made(text))[1]
+
+    def test_each_kind_of_node(self):
+        rows = re.findall("^[|] .* [|] `(.*goal .*)` [|] `(.*)` [|]$", self.AUDITORS, re.M)
+        self.assertEqual(len(rows), 12)
+        for text, term in rows:
+            self.assertEqual(self.printed(text.replace("\\|", "|").replace("; ", "\n")).splitlines()[-1], term)
+
+    def test_each_list_with_its_output(self):
+        for page, count in [(self.AUDITORS, 2), (held(os.path.join(ROOT, "README.md")), 1)]:
+            blocks = re.findall("^```\n(.*?)^```", page, re.M | re.S)
+            pairs = [pair for pair in zip(blocks, blocks[1:]) if "goal " in pair[0]]
+            self.assertEqual(len(pairs), count)
+            for text, output in pairs:
+                self.assertEqual(self.printed(text), output)
+
+    def test_the_tip_rule_and_its_other_goals(self):
+        tips, blocks = held(os.path.join(EXAMPLES, "tips.txt")), re.findall("^```\n(.*?)^```", self.AUDITORS, re.M | re.S)
+        self.assertEqual([blocks[1], blocks[3]], [held(os.path.join(EXAMPLES, name)) for name in ["tips.out", "tips-ana.out"]])
+        self.assertEqual(blocks[2].split(), blocks[1].splitlines()[-1].split())
+        for goal, steps in [("(> p4 F)", 17), ("F", 15)]:
+            self.assertEqual(self.printed(re.sub("goal .*", "goal " + goal, tips)), "unprovable\nsteps %d\n" % steps)
 
 
 class Streams(unittest.TestCase):
