@@ -4,7 +4,8 @@
     house.py make LIST [FILE]      FILE is LIST with the ending .house where it is not given
     house.py read FILE [LIST]      LIST is standard output where it is not given
 
-LIST and FILE may be - for standard input or output. A list has one of these on each line, and # begins a remark:
+LIST and FILE may be - for standard input or output; they may not be one file. A file takes the place of an older one only once it is
+whole. A list has one of these on each line, and # begins a remark:
 
     assume x : (| p0 p1)     an assumption with its name; the assumptions stand in the file as they do in the list
     goal (| p1 p0)           the goal
@@ -29,8 +30,11 @@ What the program would refuse with 2, 3, 4, 5 or 14 is an error, unless the list
 Exit status 0, or 1 with one line that says where the error is, or 2 where the call itself is wrong.
 """
 import argparse
+import contextlib
+import errno
 import os
 import re
+import stat
 import struct
 import sys
 
@@ -513,19 +517,86 @@ def remade(text):
         return None
 
 
+@contextlib.contextmanager
+def told_of(name):
+    """Gives an error of the system the name that the user knows."""
+    try:
+        yield
+    except OSError as error:
+        raise OSError(error.errno, error.strerror, name) from error
+
+
+def descriptor(stream, name):
+    """The number of a standard stream; Python has no stream where the caller has closed it."""
+    if stream is None:
+        raise OSError(errno.EBADF, os.strerror(errno.EBADF), name)
+    return stream.fileno()
+
+
 def read_bytes(path):
-    if path == "-":
-        return sys.stdin.buffer.read()
-    with open(path, "rb") as source:
+    name = "standard input" if path == "-" else path
+    with told_of(name), open(descriptor(sys.stdin, name) if path == "-" else path, "rb", closefd=path != "-") as source:
         return source.read()
+
+
+def write_output(data):
+    """Writes past Python's own buffer: what stays in it after a failure is tried again at the end, with a traceback."""
+    name = "standard output"
+    with told_of(name):
+        number = descriptor(sys.stdout, name)
+        while data:
+            data = data[os.write(number, data) :]
+
+
+def replace_file(path, data):
+    """Writes a new file beside the old one and gives it the old one's name, so that a failure leaves the old one whole."""
+    new = os.path.join(os.path.dirname(path), ".house-%d" % os.getpid())
+    mode = None
+    if os.path.exists(path):
+        # a file that may not be written is not replaced either
+        with open(path, "r+b") as old:
+            mode = stat.S_IMODE(os.fstat(old.fileno()).st_mode)
+    target = open(new, "xb")
+    try:
+        with target:
+            target.write(data)
+        if mode is not None:
+            os.chmod(new, mode)
+        os.replace(new, path)
+    except BaseException:
+        os.unlink(new)
+        raise
 
 
 def write_bytes(path, data):
     if path == "-":
-        sys.stdout.buffer.write(data)
+        write_output(data)
         return
-    with open(path, "wb") as target:
-        target.write(data)
+    with told_of(path):
+        # a link goes on leading to its file, and a device or a pipe is written to, not replaced
+        real = os.path.realpath(path)
+        if os.path.isfile(real) or not os.path.exists(real):
+            replace_file(real, data)
+            return
+        with open(path, "wb") as target:
+            target.write(data)
+
+
+def status_of(path, stream):
+    """What the system says of the file behind a path or a stream; none where there is no file."""
+    try:
+        return os.fstat(descriptor(stream, path)) if path == "-" else os.stat(path)
+    except OSError:
+        return None
+
+
+def is_same_file(source, target):
+    """Whether writing the target would change the source, by whatever names; a terminal may be both."""
+    read, written = status_of(source, sys.stdin), status_of(target, sys.stdout)
+    if not read or not stat.S_ISREG(read.st_mode):
+        return False
+    same_path = "-" not in (source, target) and os.path.realpath(source) == os.path.realpath(target)
+    return same_path or written is not None and os.path.samestat(read, written)
 
 
 def as_text(data):
@@ -537,31 +608,49 @@ def as_text(data):
 
 def run(options):
     data = read_bytes(options.source)
+    plain = options.what == "read" or options.source == "-"
+    target = options.target or ("-" if plain else os.path.splitext(options.source)[0] + ".house")
+    if is_same_file(options.source, target):
+        raise Fault("this is the file to write, too; name another one")
     if options.what == "read":
-        write_bytes(options.target or "-", listed(data).encode())
-        return
-    beside = "-" if options.source == "-" else os.path.splitext(options.source)[0] + ".house"
-    write_bytes(options.target or beside, made(as_text(data), options.unshared, options.unchecked))
+        write_bytes(target, listed(data).encode())
+    else:
+        write_bytes(target, made(as_text(data), options.unshared, options.unchecked))
 
 
-def main():
-    parser = argparse.ArgumentParser(description=__doc__, formatter_class=argparse.RawDescriptionHelpFormatter)
+class Help(argparse.Action):
+    """Writes the help as any other output, so that a failure is told in the same way."""
+
+    def __call__(self, parser, *_):
+        write_output(parser.format_help().encode())
+        parser.exit()
+
+
+def options_of(words):
+    parser = argparse.ArgumentParser(description=__doc__, formatter_class=argparse.RawDescriptionHelpFormatter, add_help=False)
+    parser.add_argument("-h", "--help", action=Help, nargs=0, help="write this and end")
     parser.add_argument("what", choices=["make", "read"])
     parser.add_argument("source")
     parser.add_argument("target", nargs="?")
     parser.add_argument("--unshared", action="store_true", help="make: every formula has words of its own")
     parser.add_argument("--unchecked", action="store_true", help="make: also what the program would refuse")
-    options = parser.parse_args()
+    return parser.parse_args(words)
+
+
+def main(words):
+    """The exit status. What went wrong is one line on standard error, where that is open."""
+    said = None
     try:
+        options = options_of(words)
         run(options)
     except Fault as fault:
-        print(fault.told(options.source), file=sys.stderr)
-        return 1
+        said = fault.told(options.source)
     except OSError as error:
-        print("%s: %s" % (error.filename, error.strerror), file=sys.stderr)
-        return 1
-    return 0
+        said = "%s: %s" % (error.filename, error.strerror)
+    if said and sys.stderr:
+        print(said.replace("\n", "\\n"), file=sys.stderr)
+    return 1 if said else 0
 
 
 if __name__ == "__main__":
-    sys.exit(main())
+    sys.exit(main(sys.argv[1:]))

@@ -1,6 +1,8 @@
 #!/usr/bin/env python3
 """The tests of house.py: python3 tools/test_house.py"""
 import os
+import resource
+import stat
 import subprocess
 import sys
 import tempfile
@@ -14,6 +16,7 @@ sys.path.insert(0, HERE)
 from house import Fault, listed, made, packed, unpacked, word_of
 
 EXAMPLES = os.path.join(HERE, "..", "examples")
+HOUSE = [sys.executable, os.path.join(HERE, "house.py")]
 NAMES_OVER = "\n".join("assume x%d : p0" % i for i in range(65))
 
 
@@ -32,6 +35,12 @@ def fault_of(text):
     except Fault as fault:
         return fault.told("LIST")
     return None
+
+
+def ran(*words, **how):
+    """The exit status of a run of the command, what it wrote and what it said."""
+    run = subprocess.run([*HOUSE, *words], **{"stdout": subprocess.PIPE, "stderr": subprocess.PIPE, **how})
+    return run.returncode, run.stdout, run.stderr.decode()
 
 
 class Made(unittest.TestCase):
@@ -190,30 +199,146 @@ class RoundTrips(unittest.TestCase):
 
 
 class Command(unittest.TestCase):
-    def ran(self, *words, given=b""):
-        run = subprocess.run([sys.executable, os.path.join(HERE, "house.py"), *words], input=given, capture_output=True)
-        return run.returncode, run.stdout, run.stderr.decode()
-
     def test_streams(self):
-        self.assertEqual(self.ran("make", "-", given=b"goal F"), (0, made("goal F"), ""))
-        self.assertEqual(self.ran("read", "-", given=made("goal F")), (0, b"goal F\n", ""))
-        self.assertEqual(self.ran("make", "-", "--unshared", given=b"goal (& T T)"), (0, made("unshared\ngoal (& T T)"), ""))
-        self.assertEqual(self.ran("make", "-", "--unchecked", given=b"goal T\nafter 00"), (0, made("goal T") + b"\0", ""))
+        self.assertEqual(ran("make", "-", input=b"goal F"), (0, made("goal F"), ""))
+        self.assertEqual(ran("read", "-", input=made("goal F")), (0, b"goal F\n", ""))
+        self.assertEqual(ran("make", "-", "--unshared", input=b"goal (& T T)"), (0, made("unshared\ngoal (& T T)"), ""))
+        self.assertEqual(ran("make", "-", "--unchecked", input=b"goal T\nafter 00"), (0, made("goal T") + b"\0", ""))
 
     def test_files(self):
         with tempfile.TemporaryDirectory() as folder:
             path = os.path.join(folder, "book.txt")
             with open(path, "w") as out:
                 out.write("goal T\n")
-            self.assertEqual(self.ran("make", path), (0, b"", ""))
-            self.assertEqual(self.ran("read", os.path.join(folder, "book.house")), (0, b"goal T\n", ""))
+            self.assertEqual(ran("make", path), (0, b"", ""))
+            self.assertEqual(ran("read", os.path.join(folder, "book.house")), (0, b"goal T\n", ""))
 
     def test_errors(self):
-        self.assertEqual(self.ran("make", "-", given=b"goal T\ngoal q\n")[:2], (1, b""))
-        self.assertEqual(self.ran("make", "-", given=b"goal T\n\xff\n"), (1, b"", "-, line 2: not a text\n"))
-        self.assertEqual(self.ran("read", "-", given=b"\1"), (1, b"", "-: byte 1: the file ends within the count of formulas\n"))
-        self.assertEqual(self.ran("read", "no such file"), (1, b"", "no such file: No such file or directory\n"))
-        self.assertEqual(self.ran("write", "-")[0], 2)
+        self.assertEqual(ran("make", "-", input=b"goal T\ngoal q\n")[:2], (1, b""))
+        self.assertEqual(ran("make", "-", input=b"goal T\n\xff\n"), (1, b"", "-, line 2: not a text\n"))
+        self.assertEqual(ran("read", "-", input=b"\1"), (1, b"", "-: byte 1: the file ends within the count of formulas\n"))
+        self.assertEqual(ran("read", "no such file"), (1, b"", "no such file: No such file or directory\n"))
+        self.assertEqual(ran("write", "-")[0], 2)
+
+
+class Written(unittest.TestCase):
+    """What becomes of the files that the command reads and writes."""
+
+    def setUp(self):
+        folder = tempfile.TemporaryDirectory()
+        self.addCleanup(folder.cleanup)
+        self.folder = folder.name
+
+    def at(self, name):
+        return os.path.join(self.folder, name)
+
+    def put(self, name, data):
+        with open(self.at(name), "wb") as out:
+            out.write(data)
+        return self.at(name)
+
+    def held(self, name):
+        with open(self.at(name), "rb") as source:
+            return source.read()
+
+    def refuses(self, source, *words, **how):
+        told = "%s: this is the file to write, too; name another one\n" % source
+        self.assertEqual(ran(*words, **how), (1, b"", told))
+        self.assertEqual(self.held("book.house"), b"goal T\n")
+
+    def test_the_source_is_not_overwritten(self):
+        book = self.put("book.house", b"goal T\n")
+        self.refuses(book, "make", book)
+        self.refuses(book, "make", book, book)
+        self.refuses(book, "make", book, os.path.join(self.folder, ".", "book.house"))
+        with open(book) as given:
+            self.refuses("-", "make", "-", book, stdin=given)
+
+    def test_nor_through_a_link(self):
+        book = self.put("book.house", b"goal T\n")
+        os.symlink("book.house", self.at("book.txt"))
+        os.symlink("book.txt", self.at("far.txt"))
+        os.link(book, self.at("hard.txt"))
+        os.symlink(self.folder, self.at("around"))
+        for name in ["book.txt", "far.txt", "hard.txt", "around/book.house"]:
+            with self.subTest(name):
+                self.refuses(self.at(name), "make", self.at(name), book)
+                self.refuses(book, "make", book, self.at(name))
+        self.refuses(self.at("book.txt"), "make", self.at("book.txt"))
+
+    def test_nor_by_a_read(self):
+        file = made("goal T")
+        book = self.put("book.house", file)
+        told = "%s: this is the file to write, too; name another one\n" % book
+        self.assertEqual(ran("read", book, book), (1, b"", told))
+        with open(book, "ab") as out:
+            self.assertEqual(ran("read", book, stdout=out), (1, None, told))
+        self.assertEqual(self.held("book.house"), file)
+
+    def test_a_failure_leaves_the_old_file_whole(self):
+        book = self.put("book.txt", b"goal T\n")
+        self.put("book.house", b"old")
+        short = lambda: resource.setrlimit(resource.RLIMIT_FSIZE, (4, 4))
+        told = "%s: File too large\n" % self.at("book.house")
+        self.assertEqual(ran("make", book, preexec_fn=short), (1, b"", told))
+        self.assertEqual(self.held("book.house"), b"old")
+        self.assertEqual(sorted(os.listdir(self.folder)), ["book.house", "book.txt"])
+
+    def test_modes_and_links_stay(self):
+        book = self.put("book.txt", b"goal T\n")
+        os.chmod(self.put("kept.house", b"old"), 0o640)
+        os.symlink("kept.house", self.at("book.house"))
+        self.assertEqual(ran("make", book), (0, b"", ""))
+        self.assertTrue(os.path.islink(self.at("book.house")))
+        self.assertEqual((self.held("kept.house"), stat.S_IMODE(os.stat(self.at("kept.house")).st_mode)), (made("goal T"), 0o640))
+        self.assertEqual(ran("make", book, self.at("new.house"), preexec_fn=lambda: os.umask(0o027)), (0, b"", ""))
+        self.assertEqual(stat.S_IMODE(os.stat(self.at("new.house")).st_mode), 0o640)
+
+    def test_a_pipe_is_written_to_and_not_replaced(self):
+        book, pipe = self.put("book.txt", b"goal T\n"), self.at("pipe")
+        os.mkfifo(pipe)
+        end = os.open(pipe, os.O_RDONLY | os.O_NONBLOCK)
+        self.addCleanup(os.close, end)
+        self.assertEqual(ran("make", book, pipe), (0, b"", ""))
+        self.assertEqual(os.read(end, 100), made("goal T"))
+        self.assertTrue(stat.S_ISFIFO(os.stat(pipe).st_mode))
+
+    def test_a_folder_is_no_target(self):
+        book = self.put("book.txt", b"goal T\n")
+        self.assertEqual(ran("make", book, self.folder), (1, b"", "%s: Is a directory\n" % self.folder))
+
+
+class Streams(unittest.TestCase):
+    """Standard streams that are closed or full: one line, exit status 1."""
+
+    WORDS = [["make", "-"], ["read", os.path.join(EXAMPLES, "whole.house")], ["--help"]]
+
+    def says(self, words, told, redirected="", **how):
+        command = ["sh", "-c", 'exec "$@" ' + redirected, "sh", *HOUSE, *words]
+        run = subprocess.run(command, input=b"goal T\n", stderr=subprocess.PIPE, **how)
+        self.assertEqual((run.returncode, run.stderr.decode()), (1, told), words)
+
+    def test_a_full_disk(self):
+        for words in self.WORDS:
+            self.says(words, "standard output: No space left on device\n", ">/dev/full")
+
+    def test_a_closed_output(self):
+        for words in self.WORDS:
+            self.says(words, "standard output: Bad file descriptor\n", ">&-")
+
+    def test_a_pipe_that_nobody_reads(self):
+        for words in self.WORDS:
+            end, pipe = os.pipe()
+            os.close(end)
+            with open(pipe, "wb") as out:
+                self.says(words, "standard output: Broken pipe\n", stdout=out)
+
+    def test_a_closed_input(self):
+        self.says(["make", "-"], "standard input: Bad file descriptor\n", "<&-")
+
+    def test_nothing_is_said_where_nobody_listens(self):
+        run = subprocess.run(["sh", "-c", 'exec "$@" 2>&-', "sh", *HOUSE, "read", "no such file"], capture_output=True)
+        self.assertEqual((run.returncode, run.stdout), (1, b""))
 
 
 class Examples(unittest.TestCase):
