@@ -4,19 +4,20 @@
     tools/records.py [CRATE...]          writes crates/*/proofs/Generated and crates/*/proofs/*/Proof/Tie.antt (of the crates named, or
                                          of all), and restates their must-fail edits
     tools/records.py --edits [CRATE...]  restates the edits alone: beside its own pairs, each gets those that its change makes in that text
+    --any-kit                            goes on with another kit than the one that this script was written for
 
 The toolchain makes this part itself, except for slices of structs, which it declines. So it is asked for the same functions over slices of
 `[u16; 2]`, in a copy of the sources with no contracts (the derivation does not depend on them) and a hole for each proof, and in what it
 makes the element is renamed. Nothing here is trusted: antt checks every file against the real function's code and contract, and
 refuses one that is stale."""
-import collections, difflib, itertools, os, pathlib, re, shutil, subprocess, sys, tempfile
+import argparse, collections, difflib, functools, itertools, os, pathlib, re, shutil, subprocess, sys, tempfile
 
 ROOT = pathlib.Path(__file__).resolve().parent.parent
 PAIR = '[u16; 2]'
-# What the twin does in place of the thin functions, which are proved by hand.
-THIN = {('context', 'read'): 'Record { formula: w[i][0], term: w[i][1] }', ('context', 'write'): 'w[i] = [formula, term];'}
-# Functions that the toolchain covers though they name the element: what they say of it in the twin.
-FILLED = {('context', 'filled'): '[[x; 2]; 16384]', ('rows', 'filled'): '[[x; 2]; 16385]'}
+# The names that are renamed below are internal to the kit: with another kit they may be others.
+KIT = 'rattle-kit-5b logic 064da1ca440f63e7'
+# The thin functions, proved by hand, stand in the crate that declares the record. What the twin does in their place, by their parameters.
+THIN = {'read': 'Record {{ formula: {0}[{1}][0], term: {0}[{1}][1] }}', 'write': '{0}[{1}] = [{2}, {3}];'}
 MADE = '-- Made by tools/records.py from the sources; antt refuses it where it is stale. Assumes nothing.\n'
 WIDTH = 136
 
@@ -26,6 +27,13 @@ def kit():
     rt = pathlib.Path(shutil.which('rt') or sys.exit('records.py: no rt on the path')).resolve()
     home = pathlib.Path(os.environ.get('RATTLE_HOME', rt.parent.parent))
     return home, home / 'on' / os.uname().machine
+
+
+def pinned(any_kit):
+    """Stops where the kit is another one than the script was written for."""
+    there = (kit()[0] / 'KIT-ID').read_text().strip()
+    if there != KIT and not any_kit:
+        sys.exit('records.py: written for %s, and this is %s (--any-kit goes on)' % (KIT, there))
 
 
 def listed():
@@ -54,6 +62,33 @@ def functions(source):
     return [(h.group(1), h.group(2), source[h.start():end]) for h, end in zip(heads, ends)]
 
 
+def filled_of(source):
+    """Functions that the toolchain covers though they name the element, as they return an array of it: what they say in the twin."""
+    made = re.findall(r'^pub fn (\w+)\((\w+): u16\) -> \[Record; (\d+)\]$', source, flags=re.M)
+    return {f: '[[%s; 2]; %s]' % (x, n) for f, x, n in made}
+
+
+def thin_of(source):
+    """The thin functions of the file that declares the record."""
+    if not re.search(r'^pub struct Record \{', source, flags=re.M):
+        return {}
+    return {f: THIN[f].format(*re.findall(r'(\w+):', params)) for f, params, _ in functions(source) if f in THIN}
+
+
+@functools.cache
+def stand_ins():
+    """By crate and function: the bodies of the thin functions in the twin, and those of the functions that return an array of records."""
+    thin, filled = {}, {}
+    for name in listed()[0]:
+        for path in sorted((ROOT / 'crates' / name / 'src').rglob('*.rt')):
+            source = path.read_text()
+            thin.update({(name, f): body for f, body in thin_of(source).items()})
+            filled.update({(name, f): body for f, body in filled_of(source).items()})
+    if sorted(f for _, f in thin) != sorted(THIN):
+        sys.exit('records.py: `struct Record` does not stand once, with `%s` beside it' % '` and `'.join(THIN))
+    return thin, filled
+
+
 class Crate:
     def __init__(self, name, changed=None):
         self.name, self.dir = name, ROOT / 'crates' / name
@@ -64,7 +99,7 @@ class Crate:
         self.functions = [('/'.join(self.module(p)), f, params, text) for p, s in self.files.items() for f, params, text in functions(s)]
         self.carriers = [(m, f) for m, f, params, text in self.functions
                          if re.search(r'\[Record[\];]', params + text.partition('{\n')[2])
-                         or any('%s::%s(' % made in text for made in FILLED)]
+                         or any('%s::%s(' % made in text for made in stand_ins()[1])]
         self.main = pathlib.Path('main.rt') in self.files
 
     @staticmethod
@@ -82,7 +117,7 @@ class Crate:
             source = re.sub(r'⌜.*?⌝', '⌜ Unit {0} ⌝', source, flags=re.S)
             source = re.sub(r'^ghost use .*?;\n', '', source, flags=re.M | re.S)
             source = re.sub(r'\[Record(?=[\];])', '[' + PAIR, source)
-            for (crate, f), body in {**THIN, **FILLED}.items():
+            for (crate, f), body in (*stand_ins()[0].items(), *stand_ins()[1].items()):
                 if crate == self.name:
                     source = re.sub(r'(pub fn %s\(.*?\n)\{\n.*?\n\}\n' % f, lambda m: m.group(1) + '{\n    ' + body + '\n}\n', source,
                                     count=1, flags=re.S)
@@ -121,7 +156,7 @@ def derived(crates, top, wanted, place):
             words += ['--lib', '%s=%s' % (crate.name, place / crate.name / 'src/lib.rt')]
     run = subprocess.run([str(w) for w in words], capture_output=True, text=True)
     if not (place / 'made').is_dir():
-        sys.exit('records.py: the toolchain made nothing:\n' + (run.stdout + run.stderr)[-4000:])
+        sys.exit('records.py: the toolchain made nothing (exit %d):\n' % run.returncode + (run.stdout + run.stderr)[-4000:])
     (place / 'said').write_text(run.stdout + run.stderr)
     return place / 'made'
 
@@ -141,6 +176,11 @@ def placed(text, crate, crates):
     return text
 
 
+def unremarked(text):
+    """The text without the toolchain's remarks on the twin, which has a hole for each proof and no contract."""
+    return re.sub(r'^ *-- antt refused.*\n', '', text, flags=re.M)
+
+
 def renamed(text, crate, crates):
     """The text with the record in place of the pair, and without what was made for a reader."""
     row = r"Array'*\.Array\s+\(Referent'*\.rtF\s+\(Referent'*\.fInt\s+Syntax\.w16\)\)\s+2"
@@ -157,12 +197,13 @@ def renamed(text, crate, crates):
     text = re.sub(r'(%s)\s+\(%s\)' % (lent, machine), r'\1 Element.named', text)
     text = re.sub(r'\(%s\)|%s' % (machine, machine), 'Element.spelled', text)
     text = placed(text, crate, crates)
-    text = re.sub(r'^-- antt refused.*\n', '', text, flags=re.M)
+    text = unremarked(text)
     # what `search` finds here: every clause of ours is a pure proposition, and a missing one says nothing
     text = re.sub(r'(·read\s+=(?:(?!search\s+Read).)*?)search\s+Read\.reads', r'\1Read.r-last _', text, flags=re.S)
     text = re.sub(r'search\s+Read\.reads', 'Read.r-top', text)
     if 'Element.' in text:
-        text = 'use Rattle.context%s.proofs.Element\n' % ('·proofs' if crate.name == 'context' else '') + text
+        home = next(name for name, _ in stand_ins()[0])
+        text = 'use Rattle.%s%s.proofs.Element\n' % (home, '·proofs' if crate.name == home else '') + text
     return text
 
 
@@ -358,7 +399,7 @@ def generated(crate, crates, wanted, made):
         home = crate.cycles.get(f, f)
         at, inner = pathlib.PurePath(module), ['Kinds', 'Reads']
         source = {name: lib / at / f / (name + '.antt') for name in inner}
-        if (crate.name, f) not in THIN:
+        if (crate.name, f) not in stand_ins()[0]:
             inner.append('Lts')
             source['Lts'] = lib / at / home / ('Lts-%s.antt' % f if home[0] == '+' else 'Lts.antt')
             out[at / home / 'Proof' / 'Tie.antt'] = lib / at / home / 'Tie.antt'
@@ -455,7 +496,7 @@ def store_group(names):
                 write(proofs / pathlib.Path(*path.parts[1:]), text)
                 size += len(text.encode())
         for module, f in crate.carriers:
-            if (crate.name, f) not in THIN:
+            if (crate.name, f) not in stand_ins()[0]:
                 adopt(crate, crates, proofs / module / crate.cycles.get(f, f))
         node = proofs / 'Lib.antt'
         old = node.read_text() if node.exists() else '-- What the proofs of `%s` stand on. Assumes nothing.\n' % crate.name
@@ -471,7 +512,12 @@ ROOM = re.compile(r' *-- told apart: (\d+)\.$', flags=re.M)
 
 def generated_files(crate):
     """The generated files of a crate that stand in it."""
-    return [path for path in (crate.dir / 'proofs').rglob('*.antt') if path.name == 'Tie.antt' or 'Generated' in path.parts]
+    return [path for path in (crate.dir / 'proofs').rglob('*.antt') if path.name == 'Tie.antt' or 'Generated' in path.with_suffix('').parts]
+
+
+def untold(text):
+    """A generated file as it is made: no line is told apart from another."""
+    return ''.join(TOLD.sub('', line) + '\n' for line in text.splitlines() if not ROOM.match(line))
 
 
 def pairs_of(base, other):
@@ -510,17 +556,28 @@ def stored(path, text, pairs):
     return [(told[ROOM.search(old).group(1)] if ROOM.search(old) else old, new) for old, new in pairs]
 
 
+def own_part(text):
+    """What an edit's author wrote: its lines but for those on generated files, and its pairs. Lines that open with neither `file: `,
+    `old: ` nor `new:` explain the edit."""
+    lines, pairs, at, old, made = [], [], None, None, False
+    for line in text.splitlines():
+        if line.startswith('file: '):
+            at = pathlib.PurePath(line[6:])
+            made = 'Generated' in at.parts or at.name == 'Tie.antt'
+        elif line.startswith('old: '):
+            old = line[5:]
+        elif line.startswith('new:') and not made:
+            pairs.append((at, old, line[4:].removeprefix(' ')))
+        if not (made and line.startswith(('file: ', 'old: ', 'new:'))):
+            lines.append(line)
+    return lines, pairs
+
+
 class Edit:
     """A must-fail edit: its own pairs, and which carriers they change (a constant may change all)."""
     def __init__(self, file):
-        self.file, self.crate, self.own, at, old = file, Crate(file.resolve().parent.parent.name), [], None, None
-        for line in file.read_text().splitlines():
-            if line.startswith('file: '):
-                at = pathlib.PurePath(line[6:])
-            elif line.startswith('old: '):
-                old = line[5:]
-            elif line.startswith('new:') and 'Generated' not in at.parts and at.name != 'Tie.antt':
-                self.own.append((at, old, line[5:]))
+        self.file, self.crate = file, Crate(file.resolve().parent.parent.name)
+        self.lines, self.own = own_part(file.read_text())
         before = {(m, f): text for m, f, _, text in self.crate.functions}
         after = {(m, f): text for m, f, _, text in Crate(self.crate.name, self.applied(self.crate.files)).functions}
         changed = [key for key in before if before[key] != after.get(key)]
@@ -544,8 +601,8 @@ class Edit:
             here = self.crate.dir / 'proofs' / pathlib.Path(*path.parts[1:])
             pairs, told = pairs_of(here.read_text(), text)
             lines += [('proofs/' + '/'.join(path.parts[1:]), x, y) for x, y in stored(here, told, pairs)]
-        out = ''
-        for at, old, new in [(str(at), old, new) for at, old, new in self.own] + lines:
+        out = ''.join(line + '\n' for line in self.lines)
+        for at, old, new in lines:
             out += ('file: %s\n' % at if at != last else '') + 'old: %s\nnew: %s\n' % (old, new)
             last = at
         self.file.write_text(out)
@@ -557,7 +614,7 @@ def restate(names):
     crates, rounds = [c for c in map(Crate, names or listed()[0]) if c.carriers], []
     for crate in crates:
         for path in generated_files(crate):
-            path.write_text(''.join(TOLD.sub('', line) + '\n' for line in path.read_text().splitlines() if not ROOM.match(line)))
+            path.write_text(untold(path.read_text()))
     edits = [Edit(file) for crate in crates for file in sorted((crate.dir / 'must-fail').glob('*.edit'))]
     for edit in edits:
         where = {(edit.crate.name, key) for key in edit.changed}
@@ -585,8 +642,17 @@ def restate(names):
             print('%s/%s: %d pairs' % (edit.crate.name, edit.file.stem, edit.restate(own)), flush=True)
 
 
+def main():
+    parser = argparse.ArgumentParser(description=__doc__, formatter_class=argparse.RawDescriptionHelpFormatter)
+    parser.add_argument('--edits', action='store_true')
+    parser.add_argument('--any-kit', action='store_true')
+    parser.add_argument('crates', nargs='*', metavar='CRATE')
+    said = parser.parse_args()
+    pinned(said.any_kit)
+    if not said.edits:
+        store(said.crates)
+    restate(said.crates)
+
+
 if __name__ == '__main__':
-    only_edits = sys.argv[1:2] == ['--edits']
-    if not only_edits:
-        store(sys.argv[1:])
-    restate(sys.argv[1 + only_edits:])
+    main()
