@@ -590,7 +590,8 @@ class Edit:
         for at, old, new in self.own:
             if at.parts[0] == 'src':
                 path = pathlib.Path(at).relative_to('src')
-                assert files[path].count(old) == 1, (self.file, old)
+                if path not in files or files[path].count(old) != 1:
+                    sys.exit('records.py: %s: not once in %s, mend it and run --edits: %s' % (self.file.relative_to(ROOT), at, old))
                 files[path] = files[path].replace(old, new)
         return files
 
@@ -612,10 +613,10 @@ class Edit:
 def restate(names):
     """Restates the edits of the crates named, or of all, as many in one run of the toolchain as change no function twice."""
     crates, rounds = [c for c in map(Crate, names or listed()[0]) if c.carriers], []
+    edits = [Edit(file) for crate in crates for file in sorted((crate.dir / 'must-fail').glob('*.edit'))]
     for crate in crates:
         for path in generated_files(crate):
             path.write_text(untold(path.read_text()))
-    edits = [Edit(file) for crate in crates for file in sorted((crate.dir / 'must-fail').glob('*.edit'))]
     for edit in edits:
         where = {(edit.crate.name, key) for key in edit.changed}
         for group in rounds:
