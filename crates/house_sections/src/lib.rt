@@ -7,6 +7,13 @@ ghost use lib.Seq.{paste};
 ghost use Rattle.theory.specs.File.{littleEndian, decoded};
 ghost use Rattle.house_sections.specs.Held.{numbersFrom, indicesFrom, textFrom, entriesEnd, Whole, goalIn, heldBy, Fits, laidOver};
 
+// The most bytes of a house file, and the most formulas and assumptions in one.
+const MOST_BYTES: usize = 32768;
+
+const MOST_FORMULAS: usize = 4096;
+
+const MOST_ASSUMPTIONS: usize = 64;
+
 // The number of `width` bytes at `at`, little-endian.
 fn number_at(file: &[u8], at: usize, width: usize) -> usize
     requires narrow { ⌜ width ≤ 4 ⌝ }
@@ -25,7 +32,9 @@ fn number_at(file: &[u8], at: usize, width: usize) -> usize
 
 // Where the assumptions end: behind the last name, or nowhere, since one is cut.
 pub enum End {
+    // one is cut
     Cut,
+    // behind the last name
     At(usize),
 }
 
@@ -53,7 +62,9 @@ fn entries_end(file: &[u8], from: usize, count: usize) -> End
 
 // The goal of a file, where its last section holds one and nothing else.
 pub enum Goal {
+    // there is another count, or other bytes
     Missing,
+    // the one goal
     Index(usize),
 }
 
@@ -73,7 +84,9 @@ fn goal_at(file: &[u8], at: usize) -> Goal
 
 // What a file holds: so many formulas from byte 2 on, so many assumptions behind them and their count, and the goal's index.
 pub enum Sections {
+    // it is no house file
     BadFile,
+    // what its three sections hold
     Held {
         formulas: usize,
         assumptions: usize,
@@ -86,14 +99,14 @@ pub fn test_file(file: &[u8]) -> Sections
     ensures held { λ r. ⌜ heldBy r (now (file .entry)) ≡ decoded (now (file .entry)) ⌝ }
     ensures fits { λ r. ⌜ Fits r (now (file .entry)) ⌝ }
 {
-    if 32768 < file.len() {
+    if MOST_BYTES < file.len() {
         return Sections::BadFile;
     }
     if file.len() < 2 {
         return Sections::BadFile;
     }
     let formulas = number_at(file, 0, 2);
-    if 4096 < formulas {
+    if MOST_FORMULAS < formulas {
         return Sections::BadFile;
     }
     let first = 4 + 4 * formulas;
@@ -101,7 +114,7 @@ pub fn test_file(file: &[u8]) -> Sections
         return Sections::BadFile;
     }
     let assumptions = number_at(file, first - 2, 2);
-    if 64 < assumptions {
+    if MOST_ASSUMPTIONS < assumptions {
         return Sections::BadFile;
     }
     match entries_end(file, first, assumptions) {

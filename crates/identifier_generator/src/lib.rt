@@ -210,7 +210,9 @@ pub fn lawful(name: &[u8], earlier: &[u8]) -> bool
 
 // Where an entry of a text stands: its bytes from `start` to `end`.
 pub enum Entry {
+    // it is there
     Held { start: usize, end: usize },
+    // it, or one before it, is cut or missing
     Missing,
 }
 

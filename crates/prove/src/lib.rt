@@ -1,5 +1,5 @@
-// The search of document 01: right, left and search, which call one another. Dyckhoff's weight of the sequent is the measure.
-// What is `pub` here is for the public call: a `requires` is what its code shows before it calls.
+// The search of document 01: right, left and search, which call one another, and the public call. Dyckhoff's weight of the sequent is
+// the measure.
 ghost use mathlib.Core.Path.{_≡_};
 ghost use Prim.Native.Nat.{_≤_, _<_};
 ghost use lib.ListN.{length};
@@ -304,7 +304,8 @@ fn branch(
     }
 }
 
-// The tries of search: the halves of a disjunction, and then the positions.
+// Search's rules 3 to 5: the halves of a disjunction, and then the positions. Its rules 1 and 2 stand in `search_leaves`, behind left's
+// turn: what fires goes on by left, up to a million times in a row, and there it does so in left's loop and not by a call.
 fn search(
     words: &mut [u32],
     terms: &mut [u16],

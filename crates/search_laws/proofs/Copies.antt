@@ -59,13 +59,15 @@ pub shifts-below : (n b p : ℕ) (w : List Rec) → p < b → getD (shifts n b w
 unfolding shifts
 shifts-below zero b p w h = refl
 shifts-below (suc n) b p w h =
-    shifts-below n (b + 1) p (set w b (getD w (b + 1) zeroed)) (omega arith) ∙ getD-set-other w b p (getD w (b + 1) zeroed) zeroed (omega arith)
+    shifts-below n (b + 1) p (set w b (getD w (b + 1) zeroed)) (omega arith)
+    ∙ getD-set-other w b p (getD w (b + 1) zeroed) zeroed (omega arith)
 
 pub shifts-above : (n b p : ℕ) (w : List Rec) → b + n ≤ p → getD (shifts n b w) p zeroed ≡ getD w p zeroed
 unfolding shifts
 shifts-above zero b p w h = refl
 shifts-above (suc n) b p w h =
-    shifts-above n (b + 1) p (set w b (getD w (b + 1) zeroed)) (omega arith) ∙ getD-set-other w b p (getD w (b + 1) zeroed) zeroed (omega arith)
+    shifts-above n (b + 1) p (set w b (getD w (b + 1) zeroed)) (omega arith)
+    ∙ getD-set-other w b p (getD w (b + 1) zeroed) zeroed (omega arith)
 
 -- each record has moved one place down
 pub shifts-at : (n b k : ℕ) (w : List Rec) → k < n → b + n < length w → getD (shifts n b w) (b + k) zeroed ≡ getD w (b + 1 + k) zeroed

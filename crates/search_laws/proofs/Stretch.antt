@@ -41,7 +41,8 @@ module _ {m : Limits} {nf nt : ℕ} {w : List Rec} {q : Sequent} {us os : List E
       }
 
   module _ (lv : q .level < m .levels) (room : (m .levels + 1) * stretch ≤ length w) where
-    raised-front : (i : ℕ) → i < q .unordered → getD (raised w q) ((q .level + 1) * stretch + i) zeroed ≡ getD w (q .level * stretch + i) zeroed
+    raised-front : (i : ℕ) → i < q .unordered →
+        getD (raised w q) ((q .level + 1) * stretch + i) zeroed ≡ getD w (q .level * stretch + i) zeroed
     unfolding raised
     raised-front i h =
         let w1 : List Rec = copies (q .unordered) (q .level * stretch) w in

@@ -15,7 +15,9 @@ use meter::State;
 
 // The premise's state and sequent, or the number of the limit that its charge passes.
 pub enum Ready {
+    // the premise may be asked
     Go(State, Sequent),
+    // a limit would be passed
     Lacks(usize),
 }
 

@@ -35,6 +35,10 @@ numbers-of (settled S.Unknown) = refl
 numbers-of (ranShort l n) = refl
 numbers-of (rejected f i) = refl
 
+-- so a status that is theory's has theory's numbers
+numbers-as : {t : Status} (s : S.Status) → t ≡ statusOf s → numbersOf t ≡ statusNumbers s
+numbers-as s e = ap numbersOf e ∙ numbers-of s
+
 -- a shortage or a refusal, handed on
 handedOn : Outcome → Status
 handedOn (Proved r n u f t) = Unknown
@@ -52,6 +56,7 @@ module _ (f : List ℕ) (count goal : ℕ) (t : List ℕ) (w : List Rec) (steps 
   unfolding cleanedUp givenWords firstClaim recordsLeft
   cleaned e es ef et ew = let a = sym (asked-cleaned x e) in record {
     status = es;
+    numbers = numbers-as ((asked x) .status) es;
     words = ef ∙ ap (λ (v : Asked). v .words) a;
     terms = et ∙ ap (λ (v : Asked). v .terms) a;
     records = ew ∙ ap (λ (v : Asked). recordsLeft v w) a;
@@ -125,13 +130,15 @@ module _ (f : List ℕ) (count goal : ℕ) (t : List ℕ) (w : List Rec) (steps 
         go (t-proved h) e = absurd (let z : _≡_ {A = ℕ} 0 1 = cc in omega arith)
         go (t-unprovable h) e = absurd (let z : _≡_ {A = ℕ} 0 1 = cc in omega arith)
         go (t-shortage h) e = absurd (let z : _≡_ {A = ℕ} 0 1 = cc in omega arith)
-        go (t-refused h) e = let a = sym (asked-refused x (h .is)) in record {
-          status = ap handedOn e ∙ ap (λ (v : Asked). statusOf (v .status)) a;
-          words = c .words ∙ ap (λ (v : After). v .words) (h .after) ∙ ap (λ (v : Asked). v .words) a;
-          terms = c .terms ∙ ap (λ (v : After). v .terms) (h .after) ∙ ap (λ (v : Asked). v .terms) a;
-          records = c .records ∙ records-kept (claimOf f count [] [] goal t (length w) steps) zeroed w (h .is)
-              ∙ ap (λ (v : Asked). recordsLeft v w) a;
-        }
+        go (t-refused h) e = let a = sym (asked-refused x (h .is)) in
+            let is = ap handedOn e ∙ ap (λ (v : Asked). statusOf (v .status)) a in record {
+              status = is;
+              numbers = numbers-as ((asked x) .status) is;
+              words = c .words ∙ ap (λ (v : After). v .words) (h .after) ∙ ap (λ (v : Asked). v .words) a;
+              terms = c .terms ∙ ap (λ (v : After). v .terms) (h .after) ∙ ap (λ (v : Asked). v .terms) a;
+              records = c .records ∙ records-kept (claimOf f count [] [] goal t (length w) steps) zeroed w (h .is)
+                  ∙ ap (λ (v : Asked). recordsLeft v w) a;
+            }
 
     module _ {n u fs ts : ℕ} (d : Unprovable n u fs ts ≡ o) where
       -- no proof: the claim passed, and the status is that of a goal without proof
@@ -165,7 +172,13 @@ module _ (f : List ℕ) (count goal : ℕ) (t : List ℕ) (w : List Rec) (steps 
 -- the same words and numbers by other names
 pub answered-as : {x : Inquiry} {w : List Rec} {s : Status} {f t f1 t1 : List ℕ} {v : List Rec} → Answered x w s f t v → f1 ≡ f → t1 ≡ t →
     Answered x w s f1 t1 v
-answered-as a ef et = record { status = a .status; words = ef ∙ a .words; terms = et ∙ a .terms; records = a .records }
+answered-as a ef et = record {
+  status = a .status;
+  numbers = a .numbers;
+  words = ef ∙ a .words;
+  terms = et ∙ a .terms;
+  records = a .records;
+}
 
 -- no second outcome satisfies the contract
 pub answered-once : {x : Inquiry} {w : List Rec} {s s′ : Status} {f t f′ t′ : List ℕ} {v v′ : List Rec} → Answered x w s f t v →

@@ -23,10 +23,15 @@ const FIRST_FREE: usize = 8192;
 
 // What comes back: a verdict, a shortage of the first search with its steps, or a refusal with its place.
 pub enum Status {
+    // the goal has a proof
     Solvable,
+    // it has none and is closed, or its negation has one
     Unsolvable,
+    // neither was found
     Unknown,
+    // a limit would be passed in the first search
     Short { number: usize, steps: usize },
+    // the input breaks what is asked of it
     Refused { number: usize, place: usize },
 }
 

@@ -30,7 +30,8 @@ returns c =
     let b = c .before .before .before in
     let s = b .before .before in
     let a = s .before .before .before .before .before .args in
-    word-refused (claimOf (now (a .words)) (a .count) (now (a .assumed)) (now (a .names)) (a .goal) (now (a .terms)) (a .records) (a .steps))
+    word-refused (claimOf (now (a .words)) (a .count) (now (a .assumed)) (now (a .names)) (a .goal) (now (a .terms)) (a .records)
+    (a .steps))
     (sym (s .right-sizes .ensures) ∙ b .before .if1 .taken) _ (sym (b .bad-word .ensures) ∙ ap placeOf (c .before .place .given .1))
 
 returns-2 : tie.Need-returns-2
@@ -40,7 +41,8 @@ returns-2 c =
     let s = b .before .before in
     let a = s .before .before .before .before .before .args in
     c .later-refusal .ensures
-    ∙ words-pass (claimOf (now (a .words)) (a .count) (now (a .assumed)) (now (a .names)) (a .goal) (now (a .terms)) (a .records) (a .steps))
+    ∙ words-pass (claimOf (now (a .words)) (a .count) (now (a .assumed)) (now (a .names)) (a .goal) (now (a .terms)) (a .records)
+    (a .steps))
     (sym (s .right-sizes .ensures) ∙ b .before .if1 .taken) (sym (b .bad-word .ensures) ∙ ap placeOf (c .before .enum-told .given .1))
 
 returns-3 : tie.Need-returns-3
@@ -48,7 +50,8 @@ unfolding rightSizes
 returns-3 c =
     let s = c .before in
     let a = s .before .before .before .before .before .args in
-    sizes-refused (claimOf (now (a .words)) (a .count) (now (a .assumed)) (now (a .names)) (a .goal) (now (a .terms)) (a .records) (a .steps))
+    sizes-refused (claimOf (now (a .words)) (a .count) (now (a .assumed)) (now (a .names)) (a .goal) (now (a .terms)) (a .records)
+    (a .steps))
     (sym (s .right-sizes .ensures) ∙ c .if1 .left)
 
 pub test-claim-spec : {M : Type 1} → statement M

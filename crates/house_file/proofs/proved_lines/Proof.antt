@@ -22,7 +22,8 @@ array-share-prefix-text : tie.Need-array-share-prefix-text
 array-share-prefix-text c =
     let w = c .before .before .before in
     let args = w .before .before .before .before .before .before .before .before .args in
-    let x = draft (now (args .words)) (args .formulas) (args .assumptions) (now (args .names)) (now (args .terms)) (args .nodes) (args .root)
+    let x = draft (now (args .words)) (args .formulas) (args .assumptions) (now (args .names)) (now (args .terms)) (args .nodes)
+    (args .root)
     (replicate 32768 0) in
     let size = w .write-text .result in
     let number = w .write-text .last .1 .1 .1 .1 .1 .1 .1 .1 .0 in
@@ -34,7 +35,8 @@ slice-aggregate-proved : tie.Need-slice-aggregate-proved
 slice-aggregate-proved c =
     let w = c .before .before .before .before in
     let args = w .before .before .before .before .before .before .before .before .args in
-    let x = draft (now (args .words)) (args .formulas) (args .assumptions) (now (args .names)) (now (args .terms)) (args .nodes) (args .root)
+    let x = draft (now (args .words)) (args .formulas) (args .assumptions) (now (args .names)) (now (args .terms)) (args .nodes)
+    (args .root)
     (replicate 32768 0) in
     let size = w .write-text .result in
     let number = w .write-text .last .1 .1 .1 .1 .1 .1 .1 .1 .0 in
@@ -46,7 +48,8 @@ proved-requires : tie.Need-proved-requires
 proved-requires c κs =
     let w = c .before .before .before .before in
     let args = w .before .before .before .before .before .before .before .before .args in
-    let x = draft (now (args .words)) (args .formulas) (args .assumptions) (now (args .names)) (now (args .terms)) (args .nodes) (args .root)
+    let x = draft (now (args .words)) (args .formulas) (args .assumptions) (now (args .names)) (now (args .terms)) (args .nodes)
+    (args .root)
     (replicate 32768 0) in
     let size = w .write-text .result in
     let number = w .write-text .last .1 .1 .1 .1 .1 .1 .1 .1 .0 in
@@ -66,7 +69,8 @@ returns : tie.Need-returns
 returns c =
     let w = c .before .before .before .before .before .before .before in
     let args = w .before .before .before .before .before .before .before .before .args in
-    let x = draft (now (args .words)) (args .formulas) (args .assumptions) (now (args .names)) (now (args .terms)) (args .nodes) (args .root)
+    let x = draft (now (args .words)) (args .formulas) (args .assumptions) (now (args .names)) (now (args .terms)) (args .nodes)
+    (args .root)
     (replicate 32768 0) in
     let size = w .write-text .result in
     let number = w .write-text .last .1 .1 .1 .1 .1 .1 .1 .1 .0 in
@@ -83,7 +87,8 @@ refused-requires : tie.Need-refused-requires
 refused-requires c κs =
     let w = c .before .before .before in
     let args = w .before .before .before .before .before .before .before .before .args in
-    let x = draft (now (args .words)) (args .formulas) (args .assumptions) (now (args .names)) (now (args .terms)) (args .nodes) (args .root)
+    let x = draft (now (args .words)) (args .formulas) (args .assumptions) (now (args .names)) (now (args .terms)) (args .nodes)
+    (args .root)
     (replicate 32768 0) in
     let size = w .write-text .result in
     let number = w .write-text .last .1 .1 .1 .1 .1 .1 .1 .1 .0 in
@@ -103,7 +108,8 @@ returns-2 : tie.Need-returns-2
 returns-2 c =
     let w = c .before .before .before .before .before .before in
     let args = w .before .before .before .before .before .before .before .before .args in
-    let x = draft (now (args .words)) (args .formulas) (args .assumptions) (now (args .names)) (now (args .terms)) (args .nodes) (args .root)
+    let x = draft (now (args .words)) (args .formulas) (args .assumptions) (now (args .names)) (now (args .terms)) (args .nodes)
+    (args .root)
     (replicate 32768 0) in
     let size = w .write-text .result in
     let number = w .write-text .last .1 .1 .1 .1 .1 .1 .1 .1 .0 in

@@ -3,6 +3,7 @@ mod Tie
 use borrow.Author.Needs.{needs}
 use mathlib.Core.Path.{refl, ap}
 use native.Mathlib.Omega.{arith}
+use Rattle.theory.specs.Call.{Claim}
 use Rattle.theory.proofs.Passing.{passes}
 use Rattle.call.proofs.First.{few-names}
 use Rattle.call.proofs.Ending.{ends-short, right-asks, right-ends}
@@ -12,33 +13,35 @@ use Rattle.call.specs.Lent.{claimOf}
 use Rattle.prove.proofs.start.Statement.{statement}
 use Rattle.prove.proofs.start.Proof.Tie as tie
 
+-- the claim that the call is lent
+abbrev lent : tie.Start → Claim
+lent c =
+    let a = c .args in
+    claimOf (now (a .words)) (a .count) (now (a .assumed)) (now (a .names)) (a .goal) (now (a .terms)) (length (now (a .work))) (a .steps)
+
 limits-requires : tie.Need-limits-requires
 limits-requires c κs = search needs
 
 returns : tie.Need-returns
 returns c =
     let l = c .before .before in
-    let a = l .before .before .before .before .before .args in
-    let x = claimOf (now (a .words)) (a .count) (now (a .assumed)) (now (a .names)) (a .goal) (now (a .terms)) (length (now (a .work))) (a .steps) in
-    ends-short x (now (a .work)) (l .before .before .before .before .before .pre) refl
+    let s = l .before .before .before .before .before in
+    ends-short (lent s) (now (s .args .work)) (s .pre) refl
     (omega (arith, c .if1 .taken, ap (λ v. v .terms) (l .limits .ensures)))
 
 assume-requires : tie.Need-assume-requires
 assume-requires c κs =
     let s = c .before .before .before .before .before .before .before .before .before in
-    let a = s .args in
-    let x = claimOf (now (a .words)) (a .count) (now (a .assumed)) (now (a .names)) (a .goal) (now (a .terms)) (length (now (a .work))) (a .steps) in
-    (passes x (s .pre)) .few
+    (passes (lent s) (s .pre)) .few
 
 right-requires : tie.Need-right-requires
 right-requires c κs =
     let test = c .before .before .before .before .before .before .before .before .before in
     let s = test .before .before .before .before .before .before .before in
-    let a = s .args in
     let e = c .before .before .before .before .before .before .assume .ensures in
-    let x = claimOf (now (a .words)) (a .count) (now (a .assumed)) (now (a .names)) (a .goal) (now (a .terms)) (length (now (a .work))) (a .steps) in (
-      right-asks x (now (a .work)) (s .pre) refl (test .before .before .limits .ensures) (e .1 .0) (e .1 .1) (e .0) (test .if1 .left),
-      few-names x (now (a .work)) (s .pre) refl,
+    let x = lent s in (
+      right-asks x (now (s .args .work)) (s .pre) refl (test .before .before .limits .ensures) (e .1 .0) (e .1 .1) (e .0) (test .if1 .left),
+      few-names x (now (s .args .work)) (s .pre) refl,
     )
 
 same-length : tie.Need-same-length
@@ -54,10 +57,9 @@ returns-2 : tie.Need-returns-2
 returns-2 c =
     let test = c .before .before .before .before .before .before .before .before .before .before .before .before .before .before .before in
     let s = test .before .before .before .before .before .before .before in
-    let a = s .args in
-    let x = claimOf (now (a .words)) (a .count) (now (a .assumed)) (now (a .names)) (a .goal) (now (a .terms)) (length (now (a .work))) (a .steps) in
+    let x = lent s in
     let e = c .before .before .before .before .before .before .before .before .before .before .before .before .assume .ensures in
-    right-ends x (now (a .work)) (s .pre) refl
+    right-ends x (now (s .args .work)) (s .pre) refl
     (test .before .before .limits .ensures) (e .1 .0) (e .1 .1) (e .0) (test .if1 .left)
     (c .before .before .before .before .before .right .ensures)
 

@@ -58,5 +58,6 @@ returns-7 c = sym (ap (λ (x : Tested). numberIn (refusedBy x)) (c .enum-told7 .
 
 pub number-of-spec : {M : Type 1} → statement M
 number-of-spec =
-    tie.close (tie.spec enum-told enum-told-2 enum-told-3 enum-told-4 enum-told-5 enum-told-6 enum-told-7 returns returns-2 returns-3 returns-4
+    tie.close (tie.spec enum-told enum-told-2 enum-told-3 enum-told-4 enum-told-5 enum-told-6 enum-told-7 returns returns-2 returns-3
+    returns-4
     returns-5 returns-6 returns-7)

@@ -35,7 +35,8 @@ loop-again c =
     let i = c .before .before .before .loop .i in
     let below = sym (ap (λ (x : ℕ). ltb x (a .count)) (c .before .assumption .ensures)) ∙ lt-ltb _ _ (c .if1 .taken) in (
       omega arith,
-      sym (outside-good (a .assumed .now) (a .count) i (c .before .before .loop-test .taken) below) ∙ c .before .before .before .loop .inv .1,
+      sym (outside-good (a .assumed .now) (a .count) i (c .before .before .loop-test .taken) below) ∙ c .before .before .before .loop .inv
+          .1,
     )
 
 returns : tie.Need-returns Inv-loop μ-loop

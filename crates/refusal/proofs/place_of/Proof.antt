@@ -57,5 +57,6 @@ returns-7 c = sym (ap (λ (x : Tested). placeIn (refusedBy x)) (c .before .teste
 
 pub place-of-spec : {M : Type 1} → statement M
 place-of-spec =
-    tie.close (tie.spec enum-told enum-told-2 enum-known-tested enum-known-tested-2 enum-known-tested-3 enum-known-tested-4 enum-known-tested-5 returns
+    tie.close (tie.spec enum-told enum-told-2 enum-known-tested enum-known-tested-2 enum-known-tested-3 enum-known-tested-4
+    enum-known-tested-5 returns
     returns-2 returns-3 returns-4 returns-5 returns-6 returns-7)

@@ -7,7 +7,8 @@ use Prim.Native.Nat.{ℕ, _-_}
 use lib.ListN.{length}
 use Rattle.meter.specs.declared.Limits.{Limits}
 use Rattle.search_laws.proofs.Firing.{FallenTo}
-use Rattle.search_leaves.proofs.Fall.{Start, start-of, walk-starts, walk-fits, walk-past, walk-some, walk-fires, walk-ends, before-one}
+use Rattle.search_leaves.proofs.Fall.{Start, start-of, walk-starts, walk-fits, walk-past, walk-some, walk-fires}
+use Rattle.search_leaves.proofs.Fall.{walk-ends, before-one}
 use Rattle.search_leaves.proofs.fire_all.Statement.{statement}
 use Rattle.search_leaves.proofs.fire_all.Proof.Tie as tie
 

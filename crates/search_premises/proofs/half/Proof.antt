@@ -48,7 +48,8 @@ returns c =
     let s = p3 .before .before .before in
     λ taken e. lacks
     (record {
-      is = half-tested (s .pre .0) (s .args .x + 1) (s .args .state .formulas) (s .args .state .terms + 1) (p3 .pop .ensures) (p2 .lack .ensures);
+      is = half-tested (s .pre .0) (s .args .x + 1) (s .args .state .formulas) (s .args .state .terms + 1) (p3 .pop .ensures)
+          (p2 .lack .ensures);
     }) (c .if1 .taken)
 
 add-put : tie.Need-add-put
@@ -74,7 +75,8 @@ up-requires c κs =
     let p2 = p1 .before in
     let p3 = p2 .before .before .before in
     let s = p3 .before .before .before in
-    let h = fields (p3 .pop .ensures) in let o = up-room (s .pre .0) (s .args .x + 1) (s .args .state .formulas) (s .args .state .terms + 1) _
+    let h = fields (p3 .pop .ensures) in let o = up-room (s .pre .0) (s .args .x + 1) (s .args .state .formulas) (s .args .state .terms + 1)
+    _
     (half-tested (s .pre .0) (s .args .x + 1) (s .args .state .formulas) (s .args .state .terms + 1) (p3 .pop .ensures) (p2 .lack .ensures))
     (p1 .if1 .left) in omega arith
 

@@ -25,7 +25,8 @@ unproved-requires c κs =
     let k = c .before .before .before in
     let h = k .before .before .before .before .before .before .before in
     let a = h .before .before .before .before .before .before .args in
-    failed-asks (now (a .words)) (a .count) (a .goal) (now (a .terms)) (now (a .work)) (a .steps) (h .search-goal .ensures) (sym (k .enum-told2 .given .1))
+    failed-asks (now (a .words)) (a .count) (a .goal) (now (a .terms)) (now (a .work)) (a .steps) (h .search-goal .ensures)
+    (sym (k .enum-told2 .given .1))
 
 clean-requires-2 : tie.Need-clean-requires-2
 clean-requires-2 c κs = search needs

@@ -84,7 +84,8 @@ branch-requires-2 t c κs =
           s .pre .1 .1 .0,
           (
             rw (c .right .ensures) (halves-of (skipped (namesIn (s .args .names .now))) (b .rep) (splits-back
-                (skipped (namesIn (s .args .names .now))) (s .pre .1 .0) (s .pre .1 .1 .1) b) ((right-back (skipped (namesIn (s .args .names .now)))
+                (skipped (namesIn (s .args .names .now))) (s .pre .1 .0) (s .pre .1 .1 .1) b)
+                ((right-back (skipped (namesIn (s .args .names .now)))
                 (s .pre .1 .0) (s .pre .1 .1 .1) ((found-back (s .pre .1 .0) (asked-at (p3 .i .given .1) (p4 .branch .ensures))) .0)
                 ((p5 .formula-at .ensures) ∙ ap (formulaAt (s .args .work .now)) (p6 .top .ensures))) .0) .1),
             (p2 .fresh2 .ensures),

@@ -143,7 +143,8 @@ loop-again-2 t c =
       (p4 .loop .inv .1),
       (p4 .loop .inv .2),
       going-skips ((p4 .loop .inv .3)) (p3 .if1 .taken) (nested-no (skipped
-          (namesIn (s .args .names .now))) ((p4 .loop .inv .3 .past .back .rep)) (s .pre .1 .1 .1) (p3 .if1 .taken) (sym (p2 .nested .ensures) ∙
+          (namesIn (s .args .names .now))) ((p4 .loop .inv .3 .past .back .rep)) (s .pre .1 .1 .1) (p3 .if1 .taken)
+          (sym (p2 .nested .ensures) ∙
           (c .if2 .left))),
     )
 
