@@ -7,10 +7,27 @@ use lib.ListN.{length, replicate}
 use lib.Seq.{length-take-le}
 use denote.Ref.{now}
 use Rattle.theory.specs.NameText.{padded}
+use Rattle.theory.specs.Writer.{Draft}
 use Rattle.house_text.specs.Drafted.{draft}
 use Rattle.house_file.proofs.Lines.{size-inside, lines-written, lines-refused, refused-small}
 use Rattle.house_file.proofs.proved_lines.Statement.{statement}
 use Rattle.house_file.proofs.proved_lines.Tie as tie
+
+-- where the function starts, seen from behind the writer's call; the draft that the writer is lent; the number and the text that it leaves
+abbrev starts : tie.After-write-text → tie.Start
+starts w = w .before .before .before .before .before .before .before .before
+
+abbrev lent : tie.After-write-text → Draft
+lent w =
+    let args = (starts w) .args in
+    draft (now (args .words)) (args .formulas) (args .assumptions) (now (args .names)) (now (args .terms)) (args .nodes) (args .root)
+    (replicate 32768 0)
+
+abbrev numberLeft : tie.After-write-text → ℕ
+numberLeft w = w .write-text .last .1 .1 .1 .1 .1 .1 .1 .1 .0
+
+abbrev textLeft : tie.After-write-text → List ℕ
+textLeft w = w .write-text .last .1 .1 .1 .1 .1 .1 .1 .0
 
 slice-aggregate-write-text : tie.Need-slice-aggregate-write-text
 slice-aggregate-write-text c = search needs
@@ -21,44 +38,23 @@ write-text-requires c κs = search needs
 array-share-prefix-text : tie.Need-array-share-prefix-text
 array-share-prefix-text c =
     let w = c .before .before .before in
-    let args = w .before .before .before .before .before .before .before .before .args in
-    let x = draft (now (args .words)) (args .formulas) (args .assumptions) (now (args .names)) (now (args .terms)) (args .nodes)
-    (args .root)
-    (replicate 32768 0) in
-    let size = w .write-text .result in
-    let number = w .write-text .last .1 .1 .1 .1 .1 .1 .1 .1 .0 in
-    let text = w .write-text .last .1 .1 .1 .1 .1 .1 .1 .0 in
-    let hands = w .write-text .ensures .0 in
-    size-inside x size number text hands
+    size-inside (lent w) (w .write-text .result) (numberLeft w) (textLeft w) (w .write-text .ensures .0)
 
 slice-aggregate-proved : tie.Need-slice-aggregate-proved
 slice-aggregate-proved c =
     let w = c .before .before .before .before in
-    let args = w .before .before .before .before .before .before .before .before .args in
-    let x = draft (now (args .words)) (args .formulas) (args .assumptions) (now (args .names)) (now (args .terms)) (args .nodes)
-    (args .root)
-    (replicate 32768 0) in
-    let size = w .write-text .result in
-    let number = w .write-text .last .1 .1 .1 .1 .1 .1 .1 .1 .0 in
-    let text = w .write-text .last .1 .1 .1 .1 .1 .1 .1 .0 in
-    let hands = w .write-text .ensures .0 in
-    sym (length-take-le size text (size-inside x size number text hands))
+    sym (length-take-le (w .write-text .result) (textLeft w) (size-inside (lent w) (w .write-text .result) (numberLeft w) (textLeft w)
+    (w .write-text .ensures .0)))
 
 proved-requires : tie.Need-proved-requires
 proved-requires c κs =
     let w = c .before .before .before .before in
-    let args = w .before .before .before .before .before .before .before .before .args in
-    let x = draft (now (args .words)) (args .formulas) (args .assumptions) (now (args .names)) (now (args .terms)) (args .nodes)
-    (args .root)
-    (replicate 32768 0) in
-    let size = w .write-text .result in
-    let number = w .write-text .last .1 .1 .1 .1 .1 .1 .1 .1 .0 in
-    let text = w .write-text .last .1 .1 .1 .1 .1 .1 .1 .0 in
-    let hands = w .write-text .ensures .0 in
-    let pre = w .before .before .before .before .before .before .before .before .pre in (
+    let args = (starts w) .args in
+    let pre = (starts w) .pre in (
       pre .0,
       subst (λ (xs : List ℕ). length xs ≤ length (now (args .out)))
-          (lines-written x size number text hands (args .steps) (args .indices) (args .formulas) (args .nodes)
+          (lines-written (lent w) (w .write-text .result) (numberLeft w) (textLeft w) (w .write-text .ensures .0) (args .steps)
+          (args .indices) (args .formulas) (args .nodes)
           (c .before .before .if1 .taken)) (pre .1),
     )
 
@@ -68,16 +64,10 @@ same-length c = search needs
 returns : tie.Need-returns
 returns c =
     let w = c .before .before .before .before .before .before .before in
-    let args = w .before .before .before .before .before .before .before .before .args in
-    let x = draft (now (args .words)) (args .formulas) (args .assumptions) (now (args .names)) (now (args .terms)) (args .nodes)
-    (args .root)
-    (replicate 32768 0) in
-    let size = w .write-text .result in
-    let number = w .write-text .last .1 .1 .1 .1 .1 .1 .1 .1 .0 in
-    let text = w .write-text .last .1 .1 .1 .1 .1 .1 .1 .0 in
-    let hands = w .write-text .ensures .0 in
+    let args = (starts w) .args in
     let proved = c .before .before .proved in
-    let lines = lines-written x size number text hands (args .steps) (args .indices) (args .formulas) (args .nodes)
+    let lines = lines-written (lent w) (w .write-text .result) (numberLeft w) (textLeft w) (w .write-text .ensures .0) (args .steps)
+    (args .indices) (args .formulas) (args .nodes)
     (c .before .before .before .before .before .if1 .taken) in (
       proved .ensures .0 ∙ ap (padded (length (now (args .out)))) (sym lines),
       proved .ensures .1 ∙ ap length (sym lines),
@@ -86,18 +76,12 @@ returns c =
 refused-requires : tie.Need-refused-requires
 refused-requires c κs =
     let w = c .before .before .before in
-    let args = w .before .before .before .before .before .before .before .before .args in
-    let x = draft (now (args .words)) (args .formulas) (args .assumptions) (now (args .names)) (now (args .terms)) (args .nodes)
-    (args .root)
-    (replicate 32768 0) in
-    let size = w .write-text .result in
-    let number = w .write-text .last .1 .1 .1 .1 .1 .1 .1 .1 .0 in
-    let text = w .write-text .last .1 .1 .1 .1 .1 .1 .1 .0 in
-    let hands = w .write-text .ensures .0 in
-    let pre = w .before .before .before .before .before .before .before .before .pre in (
-      refused-small x size number text hands,
+    let args = (starts w) .args in
+    let pre = (starts w) .pre in (
+      refused-small (lent w) (w .write-text .result) (numberLeft w) (textLeft w) (w .write-text .ensures .0),
       subst (λ (xs : List ℕ). length xs ≤ length (now (args .out)))
-          (lines-refused x size number text hands (args .steps) (args .indices) (args .formulas) (args .nodes) (c .before .if1 .left))
+          (lines-refused (lent w) (w .write-text .result) (numberLeft w) (textLeft w) (w .write-text .ensures .0) (args .steps)
+          (args .indices) (args .formulas) (args .nodes) (c .before .if1 .left))
           (pre .1),
     )
 
@@ -107,16 +91,10 @@ same-length-2 c = search needs
 returns-2 : tie.Need-returns-2
 returns-2 c =
     let w = c .before .before .before .before .before .before in
-    let args = w .before .before .before .before .before .before .before .before .args in
-    let x = draft (now (args .words)) (args .formulas) (args .assumptions) (now (args .names)) (now (args .terms)) (args .nodes)
-    (args .root)
-    (replicate 32768 0) in
-    let size = w .write-text .result in
-    let number = w .write-text .last .1 .1 .1 .1 .1 .1 .1 .1 .0 in
-    let text = w .write-text .last .1 .1 .1 .1 .1 .1 .1 .0 in
-    let hands = w .write-text .ensures .0 in
+    let args = (starts w) .args in
     let refused = c .before .before .refused in
-    let lines = lines-refused x size number text hands (args .steps) (args .indices) (args .formulas) (args .nodes)
+    let lines = lines-refused (lent w) (w .write-text .result) (numberLeft w) (textLeft w) (w .write-text .ensures .0) (args .steps)
+    (args .indices) (args .formulas) (args .nodes)
     (c .before .before .before .before .if1 .left) in (
       refused .ensures .0 ∙ ap (padded (length (now (args .out)))) (sym lines),
       refused .ensures .1 ∙ ap length (sym lines),

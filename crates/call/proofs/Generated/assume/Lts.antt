@@ -603,7 +603,7 @@ module _ (claims· : Claims) where
   s13 = Call.callB ps·0 r·0 (claims· .0) (claims· .1) T16 (
     record
         { pos = 11; ty = Syntax.tyRef Syntax.erased Syntax.mut y2; ref = λ x. x },
-    (Num.vAt 6 λ x. x, (Num.vLit 0, (Num.vAt 6 λ x. x, (Num.vLit 0, (Num.vLit 0, (Num.vLit 0, (Num.vLit 0, tt))))))),
+    (Num.vAt 6 λ x. x, (Num.vLit 0, (Num.vAt 6 λ x. x, (Num.vLit 0, (Num.vLit 0, (Num.vLit 0, (Num.vLit 0, tt))))))),  -- told apart: 1.
   ) 9 (3 ∷ [])
       Syntax.tyUnit
 
@@ -1130,17 +1130,17 @@ module _ (claims· : Claims) where
               (claims· .1) "proof_term::put" (known .0) E (λ pos β. β) G16 (
                 record
                     { pos = 11; ty = Syntax.tyRef Syntax.erased Syntax.mut y2; ref = λ x. x },
-                (Num.vAt 6 λ x. x, (Num.vLit 0, (Num.vAt 6 λ x. x, (Num.vLit 0, (Num.vLit 0, (Num.vLit 0, (Num.vLit 0, tt))))))),
-              ) 9 (3 ∷
+                (Num.vAt 6 λ x. x, (Num.vLit 0, (Num.vAt 6 λ x. x, (Num.vLit 0, (Num.vLit 0, (Num.vLit 0, (Num.vLit 0, tt))))))),  -- told apart: 2.
+              ) 9 (3 ∷  -- told apart: 3.
               []) (Call.sub-id 𝓤 H A W (G16 .slots)) (
                 Reads.as-is 𝓤 H A (Mut.mslice (Referent.rtF (Referent.fInt Syntax.w16)) y3 3),
                 Mut.reads-mslice 𝓤 H A W (Referent.rtF (Referent.fInt Syntax.w16)) y3 3,
                 Path'.refl,
-                (
-                  (Scalar.reads-sc 𝓤 H A W (Row.sInt Syntax.w64), Path'.refl),
+                ( -- told apart: 4.
+                  (Scalar.reads-sc 𝓤 H A W (Row.sInt Syntax.w64), Path'.refl),  -- told apart: 5.
                   (tt, ((Scalar.reads-sc 𝓤 H A W (Row.sInt Syntax.w64), Path'.refl), (tt, (tt, (tt, (tt, tt)))))),
-                ),
-              ) (Reads.room-gone 𝓤 H A
+                ),  -- told apart: 6.
+              ) (Reads.room-gone 𝓤 H A  -- told apart: 7.
               Syntax.tyUnit) (tt, tt) Path'.refl) d20
 
           d22 : Typed.Typed 𝓤 H A 𝓣 E G15 b20 Δ3 at22
@@ -1450,8 +1450,8 @@ module _ (claims· : Claims) where
         After-put·own = Called.Called ps·0 r·0 (claims· .1) T16 (
           record
               { pos = 11; ty = Syntax.tyRef Syntax.erased Syntax.mut y2; ref = λ x. x },
-          (Num.vAt 6 λ x. x, (Num.vLit 0, (Num.vAt 6 λ x. x, (Num.vLit 0, (Num.vLit 0, (Num.vLit 0, (Num.vLit 0, tt))))))),
-        ) (m13
+          (Num.vAt 6 λ x. x, (Num.vLit 0, (Num.vAt 6 λ x. x, (Num.vLit 0, (Num.vLit 0, (Num.vLit 0, (Num.vLit 0, tt))))))),  -- told apart: 8.
+        ) (m13  -- told apart: 9.
             (before· .before) (before· .put-arg .given))
 
       pub record After-put : Type 0 where
@@ -1462,8 +1462,8 @@ module _ (claims· : Claims) where
       After-put·gave = λ c. Called.given ps·0 r·0 (claims· .1) T16 (
         record
             { pos = 11; ty = Syntax.tyRef Syntax.erased Syntax.mut y2; ref = λ x. x },
-        (Num.vAt 6 λ x. x, (Num.vLit 0, (Num.vAt 6 λ x. x, (Num.vLit 0, (Num.vLit 0, (Num.vLit 0, (Num.vLit 0, tt))))))),
-      ) (m13 (c
+        (Num.vAt 6 λ x. x, (Num.vLit 0, (Num.vAt 6 λ x. x, (Num.vLit 0, (Num.vLit 0, (Num.vLit 0, (Num.vLit 0, tt))))))),  -- told apart: 10.
+      ) (m13 (c  -- told apart: 11.
           .before .before) (c .before .put-arg .given)) (c .put)
 
       abbrev pub m15 : (before : After-put-arg) → (given : s13 .gives (m13 (before .before) (before .put-arg .given))) → Typed.Mo T18
@@ -1805,7 +1805,7 @@ module _ (claims· : Claims) where
                   = Called.called ps·0 r·0 (claims· .1) T16 (
                     record { pos = 11; ty = Syntax.tyRef Syntax.erased Syntax.mut y2; ref = λ x. x },
                     (Num.vAt 6 λ x. x, (Num.vLit 0, (Num.vAt 6 λ x. x, (Num.vLit 0, (Num.vLit 0, (Num.vLit 0, (Num.vLit 0, tt))))))),
-                  ) (m13
+                  ) (m13  -- told apart: 12.
                   record { before = c .before; loop-test = c .loop-test } g) g';
             },
           ),

@@ -396,8 +396,10 @@ module _ (claims· : Claims) where
   s5 = Call.callB ps·0 r·0 (claims· .0) (claims· .1) T6 (
     record
         { pos = 6; ty = Syntax.tyRef Syntax.erased Syntax.mut Element.named; ref = λ x. x },
-    (Num.vAt 3 λ x. x, (Num.vFld 2 ((Syntax.field 1) ∷ []) 8 λ x. Sequent.struct .as-values x .1 .0, tt)),
+    (Num.vAt 3 λ x. x, (Num.vFld 2 ((Syntax.field 1) ∷ []) 8 λ x. Sequent.struct .as-values x .1 .0, tt)),  -- told apart: 1.
   ) 4 (1 ∷ []) Syntax.tyUnit
+
+  -- told apart: 5.
 
   abbrev s6 : Typed.Mo T7 → Typed.Mo T8
   s6 = Scalar.n-room T7 4 Syntax.tyUnit
@@ -834,7 +836,7 @@ module _ (claims· : Claims) where
               (claims· .1) "context::copy_run" known E (λ pos β. β) G6 (
                 record
                     { pos = 6; ty = Syntax.tyRef Syntax.erased Syntax.mut Element.named; ref = λ x. x },
-                (Num.vAt 3 λ x. x, (Num.vFld 2 ((Syntax.field 1) ∷ []) 8 λ x. Sequent.struct .as-values x .1 .0, tt)),
+                (Num.vAt 3 λ x. x, (Num.vFld 2 ((Syntax.field 1) ∷ []) 8 λ x. Sequent.struct .as-values x .1 .0, tt)),  -- told apart: 2.
               ) 4 (1 ∷ [])
               (Call.sub-id 𝓤 H A W (G6 .slots)) (
                 Reads'.as-is 𝓤 H A (Mut.mslice Element.row y1 1),
@@ -968,7 +970,7 @@ module _ (claims· : Claims) where
         After-copy-run·own = Called.Called ps·0 r·0 (claims· .1) T6 (
           record
               { pos = 6; ty = Syntax.tyRef Syntax.erased Syntax.mut Element.named; ref = λ x. x },
-          (Num.vAt 3 λ x. x, (Num.vFld 2 ((Syntax.field 1) ∷ []) 8 λ x. Sequent.struct .as-values x .1 .0, tt)),
+          (Num.vAt 3 λ x. x, (Num.vFld 2 ((Syntax.field 1) ∷ []) 8 λ x. Sequent.struct .as-values x .1 .0, tt)),  -- told apart: 3.
         ) (m4 (before· .before)
             (before· .copy-run-arg .given))
 
@@ -980,7 +982,7 @@ module _ (claims· : Claims) where
       After-copy-run·gave = λ c. Called.given ps·0 r·0 (claims· .1) T6 (
         record
             { pos = 6; ty = Syntax.tyRef Syntax.erased Syntax.mut Element.named; ref = λ x. x },
-        (Num.vAt 3 λ x. x, (Num.vFld 2 ((Syntax.field 1) ∷ []) 8 λ x. Sequent.struct .as-values x .1 .0, tt)),
+        (Num.vAt 3 λ x. x, (Num.vFld 2 ((Syntax.field 1) ∷ []) 8 λ x. Sequent.struct .as-values x .1 .0, tt)),  -- told apart: 4.
       ) (m4 (c .before .before)
           (c .before .copy-run-arg .given)) (c .copy-run)
 

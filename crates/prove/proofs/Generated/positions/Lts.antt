@@ -1403,7 +1403,7 @@ module _ (claims· : Claims) where
 
   abbrev s78 : Typed.Mo T81 → Typed.Mo T82
   s78 = Make.n-enum-make Answer.the-type T81 0 λ m. Answer.enum .make (Logic.inr (Logic.inr (Logic.inl
-      (m .1 .1 .1 .1 .1 .1 .1 .1 .1 .1 .1 .1 .1 .1 .0, (m .1 .1 .1 .1 .1 .1 .1 .1 .1 .1 .1 .1 .1 .1 .1 .0, tt)))))
+      (m .1 .1 .1 .1 .1 .1 .1 .1 .1 .1 .1 .1 .1 .1 .0, (m .1 .1 .1 .1 .1 .1 .1 .1 .1 .1 .1 .1 .1 .1 .1 .0, tt)))))  -- told apart: 1.
 
   abbrev s79 : Typed.Mo T82 → Typed.Mo T83
   s79 = Scalar.n-room T82 15 y1
@@ -2391,36 +2391,40 @@ module _ (claims· : Claims) where
               Answer.the-type Laws.the-laws Laws.the-plain tt G81 0 ((Scalar.oInt Syntax.w8 2) ∷ (Scalar.oAt 14 y0 (Row.valS (Row.sInt
               Syntax.w64))) ∷ (Scalar.oAt 15 y1 (Laws'5.val State.the-type Laws'3.the-laws)) ∷ []) (λ m. Answer.enum .make (Logic.inr
               (Logic.inr (Logic.inl
-              (m .1 .1 .1 .1 .1 .1 .1 .1 .1 .1 .1 .1 .1 .1 .0, (m .1 .1 .1 .1 .1 .1 .1 .1 .1 .1 .1 .1 .1 .1 .1 .0, tt))))))
-              (Reads'.room-gone 𝓤 H A y7) (
+              (m .1 .1 .1 .1 .1 .1 .1 .1 .1 .1 .1 .1 .1 .1 .0, (m .1 .1 .1 .1 .1 .1 .1 .1 .1 .1 .1 .1 .1 .1 .1 .0, tt))))))  -- told apart: 2.
+              (Reads'.room-gone 𝓤 H A y7) ( -- told apart: 3.
+                -- told apart: 25.
+                -- told apart: 26.
+                -- told apart: 27.
+                -- told apart: 28.
                 tt,
-                (
-                  (Scalar.reads-sc 𝓤 H A W (Row.sInt Syntax.w64), Path'.refl),
-                  ((Reads.reads-struct 𝓤 H A W State.the-type Laws'3.the-laws, Path'.refl), tt),
-                ),
-              ) Path'.refl (λ m wa. Make.made-val
+                ( -- told apart: 4.
+                  (Scalar.reads-sc 𝓤 H A W (Row.sInt Syntax.w64), Path'.refl),  -- told apart: 5.
+                  ((Reads.reads-struct 𝓤 H A W State.the-type Laws'3.the-laws, Path'.refl), tt),  -- told apart: 6.
+                ),  -- told apart: 7.
+              ) Path'.refl (λ m wa. Make.made-val  -- told apart: 8.
               Answer.the-type Laws.the-laws ((Laws.the-laws .1 .1 .0 .0 .val (m .1 .1 .1 .1 .1 .1 .1 .1 .1 .1 .1 .1 .1 .1 .0)) ∷
               (Laws'5.val State.the-type Laws'3.the-laws (m .1 .1 .1 .1 .1 .1 .1 .1 .1 .1 .1 .1 .1 .1 .1 .0)) ∷ []) (Answer.enum .make
               (Logic.inr (Logic.inr (Logic.inl
-              (m .1 .1 .1 .1 .1 .1 .1 .1 .1 .1 .1 .1 .1 .1 .0, (m .1 .1 .1 .1 .1 .1 .1 .1 .1 .1 .1 .1 .1 .1 .1 .0, tt)))))) (
-                Signed.made-wt Field.u64-field (Laws.the-laws .1 .1 .0 .0) Make'.u64-wt (m .1 .1 .1 .1 .1 .1 .1 .1 .1 .1 .1 .1 .1 .1 .0),
-                (
-                  Signed.made-wt State.the-field Laws'3.the-field-laws (Make'.struct-wt State.the-type Laws'3.the-laws
-                      (Make'.u64-wt, (Make'.u64-wt, (Make'.u64-wt, (Make'.u64-wt, tt))))) (State.the-type .to (m .1 .1 .1 .1 .1 .1 .1 .1 .1 .1
-                      .1 .1 .1 .1 .1 .0)),
-                  tt,
-                ),
+              (m .1 .1 .1 .1 .1 .1 .1 .1 .1 .1 .1 .1 .1 .1 .0, (m .1 .1 .1 .1 .1 .1 .1 .1 .1 .1 .1 .1 .1 .1 .1 .0, tt)))))) ( -- told apart: 9.
+                Signed.made-wt Field.u64-field (Laws.the-laws .1 .1 .0 .0) Make'.u64-wt (m .1 .1 .1 .1 .1 .1 .1 .1 .1 .1 .1 .1 .1 .1 .0),  -- told apart: 10.
+                ( -- told apart: 11.
+                  Signed.made-wt State.the-field Laws'3.the-field-laws (Make'.struct-wt State.the-type Laws'3.the-laws  -- told apart: 12.
+                      (Make'.u64-wt, (Make'.u64-wt, (Make'.u64-wt, (Make'.u64-wt, tt))))) (State.the-type .to (m .1 .1 .1 .1 .1 .1 .1 .1 .1 .1  -- told apart: 13.
+                      .1 .1 .1 .1 .1 .0)),  -- told apart: 14.
+                  tt,  -- told apart: 15.
+                ),  -- told apart: 16.
               ) (wa .1)) λ m wa. Make.made-is Answer.the-type Laws.the-laws ((Laws.the-laws .1 .1 .0 .0 .val (m
               .1 .1 .1 .1 .1 .1 .1 .1 .1 .1 .1 .1 .1 .1 .0)) ∷ (Laws'5.val State.the-type Laws'3.the-laws (m .1 .1 .1 .1 .1 .1 .1 .1 .1
               .1 .1 .1 .1 .1 .1 .0)) ∷ []) (Answer.enum .make (Logic.inr (Logic.inr (Logic.inl
-              (m .1 .1 .1 .1 .1 .1 .1 .1 .1 .1 .1 .1 .1 .1 .0, (m .1 .1 .1 .1 .1 .1 .1 .1 .1 .1 .1 .1 .1 .1 .1 .0, tt)))))) (
-                Signed.made-wt Field.u64-field (Laws.the-laws .1 .1 .0 .0) Make'.u64-wt (m .1 .1 .1 .1 .1 .1 .1 .1 .1 .1 .1 .1 .1 .1 .0),
-                (
-                  Signed.made-wt State.the-field Laws'3.the-field-laws (Make'.struct-wt State.the-type Laws'3.the-laws
-                      (Make'.u64-wt, (Make'.u64-wt, (Make'.u64-wt, (Make'.u64-wt, tt))))) (State.the-type .to (m .1 .1 .1 .1 .1 .1 .1 .1 .1 .1
-                      .1 .1 .1 .1 .1 .0)),
-                  tt,
-                ),
+              (m .1 .1 .1 .1 .1 .1 .1 .1 .1 .1 .1 .1 .1 .1 .0, (m .1 .1 .1 .1 .1 .1 .1 .1 .1 .1 .1 .1 .1 .1 .1 .0, tt)))))) ( -- told apart: 17.
+                Signed.made-wt Field.u64-field (Laws.the-laws .1 .1 .0 .0) Make'.u64-wt (m .1 .1 .1 .1 .1 .1 .1 .1 .1 .1 .1 .1 .1 .1 .0),  -- told apart: 18.
+                ( -- told apart: 19.
+                  Signed.made-wt State.the-field Laws'3.the-field-laws (Make'.struct-wt State.the-type Laws'3.the-laws  -- told apart: 20.
+                      (Make'.u64-wt, (Make'.u64-wt, (Make'.u64-wt, (Make'.u64-wt, tt))))) (State.the-type .to (m .1 .1 .1 .1 .1 .1 .1 .1 .1 .1  -- told apart: 21.
+                      .1 .1 .1 .1 .1 .0)),  -- told apart: 22.
+                  tt,  -- told apart: 23.
+                ),  -- told apart: 24.
               ) (wa .1)) d29
 
           d31 : Typed.Typed 𝓤 H A 𝓣 E G80 b34 Δ3 at31

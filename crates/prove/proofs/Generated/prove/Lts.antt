@@ -1139,7 +1139,7 @@ module _ (claims· : Claims) where
 
   abbrev s26 : Typed.Mo T28 → Typed.Mo T29
   s26 = Make.n-enum-make Outcome.the-type T28 0 λ m. Outcome.enum .make (Logic.inr (Logic.inr (Logic.inr (Logic.inl
-      (m .1 .1 .1 .1 .1 .1 .1 .1 .1 .1 .0, (m .1 .1 .1 .1 .1 .1 .1 .1 .1 .1 .1 .1 .1 .1 .1 .1 .1 .1 .0, tt))))))
+      (m .1 .1 .1 .1 .1 .1 .1 .1 .1 .1 .0, (m .1 .1 .1 .1 .1 .1 .1 .1 .1 .1 .1 .1 .1 .1 .1 .1 .1 .1 .0, tt))))))  -- told apart: 1.
 
   abbrev s27 : Typed.Mo T29 → Typed.Mo T30
   s27 = Scalar.n-room T29 18 y0
@@ -2204,21 +2204,22 @@ module _ (claims· : Claims) where
               Laws.the-laws ((Laws.the-laws .1 .1 .1 .0 .0 .val (m .1 .1 .1 .1 .1 .1 .1 .1 .1 .1 .0)) ∷ (Laws.the-laws .1 .1 .1 .0 .1 .0
               .val (m .1 .1 .1 .1 .1 .1 .1 .1 .1 .1 .1 .1 .1 .1 .1 .1 .1 .1 .0)) ∷ []) (Outcome.enum .make (Logic.inr (Logic.inr
               (Logic.inr (Logic.inl
-              (m .1 .1 .1 .1 .1 .1 .1 .1 .1 .1 .0, (m .1 .1 .1 .1 .1 .1 .1 .1 .1 .1 .1 .1 .1 .1 .1 .1 .1 .1 .0, tt))))))) (
-                Signed.made-wt Field.u64-field (Laws.the-laws .1 .1 .1 .0 .0) Make'.u64-wt (m .1 .1 .1 .1 .1 .1 .1 .1 .1 .1 .0),
+              (m .1 .1 .1 .1 .1 .1 .1 .1 .1 .1 .0, (m .1 .1 .1 .1 .1 .1 .1 .1 .1 .1 .1 .1 .1 .1 .1 .1 .1 .1 .0, tt))))))) ( -- told apart: 2.
+                Signed.made-wt Field.u64-field (Laws.the-laws .1 .1 .1 .0 .0) Make'.u64-wt (m .1 .1 .1 .1 .1 .1 .1 .1 .1 .1 .0),  -- told apart: 3.
                 (
-                  Signed.made-wt Field.u64-field (Laws.the-laws .1 .1 .1 .0 .1 .0) Make'.u64-wt (m .1 .1 .1 .1 .1 .1 .1 .1 .1 .1 .1 .1 .1
-                      .1 .1 .1 .1 .1 .0),
+                  Signed.made-wt Field.u64-field (Laws.the-laws .1 .1 .1 .0 .1 .0) Make'.u64-wt (m .1 .1 .1 .1 .1 .1 .1 .1 .1 .1 .1 .1 .1  -- told apart: 4.
+                      .1 .1 .1 .1 .1 .0),  -- told apart: 5.
                   tt,
                 ),
               ) (wa .1)) λ m wa. Make.made-is Outcome.the-type Laws.the-laws ((Laws.the-laws .1 .1 .1 .0 .0 .val
               (m .1 .1 .1 .1 .1 .1 .1 .1 .1 .1 .0)) ∷ (Laws.the-laws .1 .1 .1 .0 .1 .0 .val (m .1 .1 .1 .1 .1 .1 .1 .1 .1 .1 .1 .1 .1 .1
               .1 .1 .1 .1 .0)) ∷ []) (Outcome.enum .make (Logic.inr (Logic.inr (Logic.inr (Logic.inl
-              (m .1 .1 .1 .1 .1 .1 .1 .1 .1 .1 .0, (m .1 .1 .1 .1 .1 .1 .1 .1 .1 .1 .1 .1 .1 .1 .1 .1 .1 .1 .0, tt))))))) (
-                Signed.made-wt Field.u64-field (Laws.the-laws .1 .1 .1 .0 .0) Make'.u64-wt (m .1 .1 .1 .1 .1 .1 .1 .1 .1 .1 .0),
+              (m .1 .1 .1 .1 .1 .1 .1 .1 .1 .1 .0, (m .1 .1 .1 .1 .1 .1 .1 .1 .1 .1 .1 .1 .1 .1 .1 .1 .1 .1 .0, tt))))))) ( -- told apart: 6.
+                Signed.made-wt Field.u64-field (Laws.the-laws .1 .1 .1 .0 .0) Make'.u64-wt (m .1 .1 .1 .1 .1 .1 .1 .1 .1 .1 .0),  -- told apart: 7.
+                -- told apart: 10.
                 (
-                  Signed.made-wt Field.u64-field (Laws.the-laws .1 .1 .1 .0 .1 .0) Make'.u64-wt (m .1 .1 .1 .1 .1 .1 .1 .1 .1 .1 .1 .1 .1
-                      .1 .1 .1 .1 .1 .0),
+                  Signed.made-wt Field.u64-field (Laws.the-laws .1 .1 .1 .0 .1 .0) Make'.u64-wt (m .1 .1 .1 .1 .1 .1 .1 .1 .1 .1 .1 .1 .1  -- told apart: 8.
+                      .1 .1 .1 .1 .1 .0),  -- told apart: 9.
                   tt,
                 ),
               ) (wa .1)) d5

@@ -4757,7 +4757,7 @@ module _ (claims· : Claims) where
       module _ (before· : After-struct-known2) where
         pub record Then1·own : Type 0 where
           pub taken : Nat._≤_ (Limits.struct .as-values (Row.get 5 (T6 .locals) (m5 (before· .before) (before· .struct-known2 .given)))
-              .0) (State.struct .as-values (Row.get 6 (T6 .locals) (m5 (before· .before) (before· .struct-known2 .given))) .0)
+              .0) (State.struct .as-values (Row.get 6 (T6 .locals) (m5 (before· .before) (before· .struct-known2 .given))) .0)  -- told apart: 1.
 
       pub record Then1 : Type 0 where
         pub before : After-struct-known2
@@ -4789,7 +4789,7 @@ module _ (claims· : Claims) where
       module _ (before· : After-struct-known2) where
         pub record Else1·own : Type 0 where
           pub left : Nat._<_ (State.struct .as-values (Row.get 6 (T6 .locals) (m5 (before· .before) (before· .struct-known2 .given)))
-              .0) (Limits.struct .as-values (Row.get 5 (T6 .locals) (m5 (before· .before) (before· .struct-known2 .given))) .0)
+              .0) (Limits.struct .as-values (Row.get 5 (T6 .locals) (m5 (before· .before) (before· .struct-known2 .given))) .0)  -- told apart: 2.
 
       pub record Else1 : Type 0 where
         pub before : After-struct-known2
@@ -6354,8 +6354,8 @@ module _ (claims· : Claims) where
                     shared-slice-known = record { given = g'' };
                   };
                   struct-known = record { given = g'3 };
-                } g'4)) .0) (State.struct .as-values
-                    (Row.get 6 (T6 .locals) (m5 record {
+                } g'4)) .0) (State.struct .as-values  -- told apart: 3.
+                    (Row.get 6 (T6 .locals) (m5 record {  -- told apart: 4.
                       before = record {
                         before = record
                             { before = record { before = c; slice-known = record { given = g } }; slice-known2 = record { given = g' } };

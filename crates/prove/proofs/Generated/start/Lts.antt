@@ -2361,7 +2361,7 @@ module _ (claims· : Claims) where
           d59 = Typed.s-seq 𝓤 H A W 𝓣 E G16 G28 b13 b40 Δ0 (Typed.pass T16 T28 s25) at58 (Scalar.t-use 𝓤 H A W E 𝓣 G16 (Scalar.oFld 5
               ((Syntax.field 1) ∷ []) y0 8 Shared.lenV) 15 (Rows.sc-here (Row.sInt Syntax.w64)) y0 (Row.valS (Row.sInt Syntax.w64))
               (Row.sInt Syntax.w64 .of)
-              (Shared.reads-sslice-len 𝓤 H A W (Referent.rtF (Referent.fInt Syntax.w16)) y22 4 8 Path'.refl, Path'.refl)
+              (Shared.reads-sslice-len 𝓤 H A W (Referent.rtF (Referent.fInt Syntax.w16)) y22 4 8 Path'.refl, Path'.refl)  -- told apart: 1.
               (Reads'.room-gone 𝓤 H A y0) (Scalar.holds-sc 𝓤 H A W (Row.sInt Syntax.w64)) Path'.refl (λ u. Path'.refl) λ u. tt) d58
 
           d60 : Typed.Typed 𝓤 H A 𝓣 E G15 b42 Δ0 at60

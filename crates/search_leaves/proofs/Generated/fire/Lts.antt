@@ -548,7 +548,7 @@ b8 = Syntax.cond (Syntax.copy (Syntax.place 12 [])) b6 b7
 
 abbrev b9 : Syntax.Body
 b9 = Syntax.assign (Syntax.place 13 []) (Syntax.op2 (Syntax.add Syntax.unsigned) (Syntax.copy (Syntax.place 5 ((Syntax.field 3) ∷ [])))
-    (Syntax.copy (Syntax.place 7 [])))
+    (Syntax.copy (Syntax.place 7 [])))  -- told apart: 8.
 
 abbrev b10 : Syntax.Body
 b10 = Syntax.call "meter::lack" ((Syntax.copy (Syntax.place 4 [])) ∷ (Syntax.copy (Syntax.place 5 ((Syntax.field 1) ∷ []))) ∷
@@ -596,7 +596,7 @@ b22 = Syntax.assign (Syntax.place 18 []) (Syntax.aggregate ((Syntax.copy (Syntax
 
 abbrev b23 : Syntax.Body
 b23 = Syntax.assign (Syntax.place 13 []) (Syntax.op2 (Syntax.add Syntax.unsigned) (Syntax.copy (Syntax.place 5 ((Syntax.field 3) ∷ [])))
-    (Syntax.copy (Syntax.place 7 [])))
+    (Syntax.copy (Syntax.place 7 [])))  -- told apart: 1.
 
 abbrev b24 : Syntax.Body
 b24 = Syntax.call "search_leaves::fire_all" ((Syntax.copy (Syntax.place 1 [])) ∷ (Syntax.copy (Syntax.place 16 [])) ∷ (Syntax.copy
@@ -1043,8 +1043,8 @@ module _ (claims· : Claims) where
 
   abbrev s19 : Typed.Asks T21 T22
   s19 = Scalar.k-op2 T21 (Syntax.add Syntax.unsigned) (Scalar.oFld 5 ((Syntax.field 3) ∷ []) y0 24 (Reads.fieldV State.the-type
-      Laws'4.the-laws 3)) (Scalar.oAt 7 y0 (Row.valS (Row.sInt Syntax.w64))) 13 (Rows.sc-here (Row.sInt Syntax.w64)) (Row.sInt
-      Syntax.w64 .of)
+      Laws'4.the-laws 3)) (Scalar.oAt 7 y0 (Row.valS (Row.sInt Syntax.w64))) 13 (Rows.sc-here (Row.sInt Syntax.w64)) (Row.sInt  -- told apart: 9.
+      Syntax.w64 .of)  -- told apart: 10.
 
   abbrev s20 : Typed.Both T22 T23
   s20 = Call.callB ps·1 r·1 (claims· .2) (claims· .3) T22 (
@@ -1123,8 +1123,8 @@ module _ (claims· : Claims) where
 
   abbrev s40 : Typed.Asks T43 T44
   s40 = Scalar.k-op2 T43 (Syntax.add Syntax.unsigned) (Scalar.oFld 5 ((Syntax.field 3) ∷ []) y0 24 (Reads.fieldV State.the-type
-      Laws'4.the-laws 3)) (Scalar.oAt 7 y0 (Row.valS (Row.sInt Syntax.w64))) 13 (Rows.sc-here (Row.sInt Syntax.w64)) (Row.sInt
-      Syntax.w64 .of)
+      Laws'4.the-laws 3)) (Scalar.oAt 7 y0 (Row.valS (Row.sInt Syntax.w64))) 13 (Rows.sc-here (Row.sInt Syntax.w64)) (Row.sInt  -- told apart: 2.
+      Syntax.w64 .of)  -- told apart: 3.
 
   abbrev s41 : Typed.Both T44 T45
   s41 = Call.callB ps·2 r·2 (claims· .4) (claims· .5) T44 (
@@ -2140,10 +2140,10 @@ module _ (claims· : Claims) where
 
           d42 : Typed.Typed 𝓤 H A 𝓣 E G43 b31 Δ0 at42
           d42 = Typed.s-seq 𝓤 H A W 𝓣 E G43 G44 b23 b30 Δ0 (Typed.ask s40) at41 (Scalar.t-op2 𝓤 H A W E 𝓣 G43 (Syntax.add
-              Syntax.unsigned) (Scalar.oFld 5 ((Syntax.field 3) ∷ []) y0 24 (Reads.fieldV State.the-type Laws'4.the-laws 3)) (Scalar.oAt
-              7 y0 (Row.valS (Row.sInt Syntax.w64))) 13 (Rows.sc-here (Row.sInt Syntax.w64)) y0 (Row.valS (Row.sInt Syntax.w64))
-              (Row.sInt Syntax.w64 .of) (Reads.reads-field 𝓤 H A W State.the-type Laws'4.the-laws 3 y0 24 Path'.refl, Path'.refl)
-              (Scalar.reads-sc 𝓤 H A W (Row.sInt Syntax.w64), Path'.refl) (Reads'.room-gone 𝓤 H A y0) (Scalar.holds-sc 𝓤 H A W (Row.sInt
+              Syntax.unsigned) (Scalar.oFld 5 ((Syntax.field 3) ∷ []) y0 24 (Reads.fieldV State.the-type Laws'4.the-laws 3)) (Scalar.oAt  -- told apart: 4.
+              7 y0 (Row.valS (Row.sInt Syntax.w64))) 13 (Rows.sc-here (Row.sInt Syntax.w64)) y0 (Row.valS (Row.sInt Syntax.w64))  -- told apart: 5.
+              (Row.sInt Syntax.w64 .of) (Reads.reads-field 𝓤 H A W State.the-type Laws'4.the-laws 3 y0 24 Path'.refl, Path'.refl)  -- told apart: 6.
+              (Scalar.reads-sc 𝓤 H A W (Row.sInt Syntax.w64), Path'.refl) (Reads'.room-gone 𝓤 H A y0) (Scalar.holds-sc 𝓤 H A W (Row.sInt  -- told apart: 7.
               Syntax.w64)) Path'.refl (λ u. Path'.refl) λ u. tt) d41
 
           d43 : Typed.Typed 𝓤 H A 𝓣 E G42 b31 Δ0 at43
@@ -2261,10 +2261,10 @@ module _ (claims· : Claims) where
 
           d54 : Typed.Typed 𝓤 H A 𝓣 E G21 b39 Δ0 at54
           d54 = Typed.s-seq 𝓤 H A W 𝓣 E G21 G22 b9 b38 Δ0 (Typed.ask s19) at53 (Scalar.t-op2 𝓤 H A W E 𝓣 G21 (Syntax.add
-              Syntax.unsigned) (Scalar.oFld 5 ((Syntax.field 3) ∷ []) y0 24 (Reads.fieldV State.the-type Laws'4.the-laws 3)) (Scalar.oAt
-              7 y0 (Row.valS (Row.sInt Syntax.w64))) 13 (Rows.sc-here (Row.sInt Syntax.w64)) y0 (Row.valS (Row.sInt Syntax.w64))
-              (Row.sInt Syntax.w64 .of) (Reads.reads-field 𝓤 H A W State.the-type Laws'4.the-laws 3 y0 24 Path'.refl, Path'.refl)
-              (Scalar.reads-sc 𝓤 H A W (Row.sInt Syntax.w64), Path'.refl) (Reads'.room-gone 𝓤 H A y0) (Scalar.holds-sc 𝓤 H A W (Row.sInt
+              Syntax.unsigned) (Scalar.oFld 5 ((Syntax.field 3) ∷ []) y0 24 (Reads.fieldV State.the-type Laws'4.the-laws 3)) (Scalar.oAt  -- told apart: 11.
+              7 y0 (Row.valS (Row.sInt Syntax.w64))) 13 (Rows.sc-here (Row.sInt Syntax.w64)) y0 (Row.valS (Row.sInt Syntax.w64))  -- told apart: 12.
+              (Row.sInt Syntax.w64 .of) (Reads.reads-field 𝓤 H A W State.the-type Laws'4.the-laws 3 y0 24 Path'.refl, Path'.refl)  -- told apart: 13.
+              (Scalar.reads-sc 𝓤 H A W (Row.sInt Syntax.w64), Path'.refl) (Reads'.room-gone 𝓤 H A y0) (Scalar.holds-sc 𝓤 H A W (Row.sInt  -- told apart: 14.
               Syntax.w64)) Path'.refl (λ u. Path'.refl) λ u. tt) d53
 
           d55 : Typed.Typed 𝓤 H A 𝓣 E G13 b39 Δ0 at55

@@ -783,9 +783,12 @@ module _ (claims· : Claims) where
 
   abbrev s5 : Typed.Mo T6 → Typed.Mo T7
   s5 = Scalar.n-use T6 (Scalar.oAt 7 y0 (Row.valS (Row.sInt Syntax.w64))) 9 (Rows.sc-here (Row.sInt Syntax.w64)) (Row.sInt Syntax.w64
+      -- told apart: 102.
+      -- told apart: 103.
+      -- told apart: 104.
       .of)
 
-  abbrev s6 : Typed.Mo T7 → Typed.Mo T8
+  abbrev s6 : Typed.Mo T7 → Typed.Mo T8  -- told apart: 1.
   s6 = Scalar.n-use T7 (Scalar.oFld 6 ((Syntax.field 1) ∷ []) y0 8 (Reads.fieldV Sequent.the-type Laws'.the-laws 1)) 10 (Rows.sc-here
       (Row.sInt Syntax.w64)) (Row.sInt Syntax.w64 .of)
 
@@ -1611,6 +1614,8 @@ module _ (claims· : Claims) where
           d34 : Typed.Typed 𝓤 H A 𝓣 E G49 b35 Δ0 at34
           d34 = Typed.t-return 𝓤 H A W 𝓣 E Δ0 tt
 
+          -- told apart: 101.
+
           d35 : Typed.Typed 𝓤 H A 𝓣 E G48 b35 Δ0 at35
           d35 = Typed.g-pre 𝓤 H A W 𝓣 E G48 G49 b35 Δ0 (Typed.pass T48 T49 s45) at34 (Scalar.g-room 𝓤 H A W E G48 7 y0 (Scalar.room-sc 𝓤
               H A W (Row.sInt Syntax.w64))) d34
@@ -1626,6 +1631,8 @@ module _ (claims· : Claims) where
           d38 : Typed.Typed 𝓤 H A 𝓣 E G45 b35 Δ0 at38
           d38 = Typed.g-pre 𝓤 H A W 𝓣 E G45 G46 b35 Δ0 (Typed.pass T45 T46 s42) at37 (Scalar.g-room 𝓤 H A W E G45 8 y1 (Local.room-whole
               𝓤 H A W (Declared.row Sequent.the-type) y1 Path'.refl)) d37
+
+          -- told apart: 100.
 
           d39 : Typed.Typed 𝓤 H A 𝓣 E G9 b36 Δ0 at39
           d39 = Typed.s-seq 𝓤 H A W 𝓣 E G9 G45 b34 b35 Δ0 (Typed.pass T9 T45 s41) at38 (LocalCopy.t-val-copy 𝓤 H A W E 𝓣 (λ ρ. Unit) G9
@@ -1648,10 +1655,15 @@ module _ (claims· : Claims) where
               (Reads.reads-field 𝓤 H A W Sequent.the-type Laws'.the-laws 1 y0 8 Path'.refl, Path'.refl) (Reads'.room-gone 𝓤 H A y0)
               (Scalar.holds-sc 𝓤 H A W (Row.sInt Syntax.w64)) Path'.refl (λ u. Path'.refl) λ u. tt) d40
 
+          -- told apart: 96.
+          -- told apart: 97.
+          -- told apart: 98.
+          -- told apart: 99.
+
           d42 : Typed.Typed 𝓤 H A 𝓣 E G6 b39 Δ0 at42
           d42 = Typed.s-seq 𝓤 H A W 𝓣 E G6 G7 b1 b38 Δ0 (Typed.pass T6 T7 s5) at41 (Scalar.t-use 𝓤 H A W E 𝓣 G6 (Scalar.oAt 7 y0
-              (Row.valS (Row.sInt Syntax.w64))) 9 (Rows.sc-here (Row.sInt Syntax.w64)) y0 (Row.valS (Row.sInt Syntax.w64)) (Row.sInt
-              Syntax.w64 .of) (Scalar.reads-sc 𝓤 H A W (Row.sInt Syntax.w64), Path'.refl) (Reads'.room-gone 𝓤 H A y0) (Scalar.holds-sc 𝓤
+              (Row.valS (Row.sInt Syntax.w64))) 9 (Rows.sc-here (Row.sInt Syntax.w64)) y0 (Row.valS (Row.sInt Syntax.w64)) (Row.sInt  -- told apart: 2.
+              Syntax.w64 .of) (Scalar.reads-sc 𝓤 H A W (Row.sInt Syntax.w64), Path'.refl) (Reads'.room-gone 𝓤 H A y0) (Scalar.holds-sc 𝓤  -- told apart: 3.
               H A W (Row.sInt Syntax.w64)) Path'.refl (λ u. Path'.refl) λ u. tt) d41
 
           d43 : Typed.Typed 𝓤 H A 𝓣 E G5 b40 Δ0 at43
@@ -1814,14 +1826,18 @@ module _ (claims· : Claims) where
           .given))) → Typed.Mo T8
       m7 = λ before given. s6 (m6 before given)
 
+      -- told apart: 92.
+      -- told apart: 93.
+      -- told apart: 94.
+      -- told apart: 95.
       abbrev W1 : (before : After-shared-slice-known) → (given : s1 .gives (m1 (before .before) (before .shared-slice-known .given))) →
           Typed.Want O1
       W1 = λ before given. Typed.wantNext T9 O0 (at39 (W0 (before .before .κs) (before .before .args))) (W0 (before .before .κs) (before
           .before .args))
 
-      abbrev pub m8 : (before : After-shared-slice-known) → (given : s1 .gives (m1 (before .before) (before .shared-slice-known
+      abbrev pub m8 : (before : After-shared-slice-known) → (given : s1 .gives (m1 (before .before) (before .shared-slice-known  -- told apart: 4.
           .given))) → Typed.Mo T10
-      m8 = λ before given. s7 (m7 before given)
+      m8 = λ before given. s7 (m7 before given)  -- told apart: 5.
 
       abbrev W2 : (before : After-shared-slice-known) → (given : s1 .gives (m1 (before .before) (before .shared-slice-known .given))) →
           Typed.Want O2
@@ -1857,16 +1873,18 @@ module _ (claims· : Claims) where
             now = work;
           } (Row.setRow 2 y14 (T10 .locals)) (Row.set 2 y14 record {
             ptr = Row.get 2 (T10 .locals) (m8 (before .before)
-                (before .slice-known .given)) .ptr;
+                (before .slice-known .given)) .ptr;  -- told apart: 6.
             name = Row.get 2 (T10 .locals) (m8 (before .before) (before .slice-known .given)) .name;
             now = terms;
           } (T10 .locals) (m8 (before .before) (before .slice-known .given))))))
+
+      -- told apart: 91.
 
       abbrev W3 : (before : After-slice-known) → (terms : List.List (Referent.rtF (Referent.fInt Syntax.w16) .Denot)) → (work :
           List.List (Element.row .Denot)) → (p : Rows.whole (Declared.row Sequent.the-type) .Mod) → (n : Rows.sc-here (Row.sInt
           Syntax.w64) .Mod) → (i : Rows.sc-here (Row.sInt Syntax.w64) .Mod) → Typed.Want O3
       W3 = λ before terms work p n i. Typed.inLoop T10 O2 (Typed.Round T10 O2 put0 (λ u vs. Inv·0 (Row.get 1 (T10 .locals) u .now)
-          (Row.get 2 (T10 .locals) u .now) (Row.get 3 (T10 .locals) u .now) (Row.get 7 (T10 .locals) u) (Row.get 8 (T10 .locals) u)
+          (Row.get 2 (T10 .locals) u .now) (Row.get 3 (T10 .locals) u .now) (Row.get 7 (T10 .locals) u) (Row.get 8 (T10 .locals) u)  -- told apart: 7.
           (Row.get 9 (T10 .locals) u) (Row.get 10 (T10 .locals) u) (vs .0) (vs .1) (vs .2) (vs .3) (vs .4)) (λ u vs. μ·0 (Row.get 1 (T10
           .locals) u .now) (Row.get 2 (T10 .locals) u .now) (Row.get 3 (T10 .locals) u .now) (Row.get 7 (T10 .locals) u) (Row.get 8 (T10
           .locals) u) (Row.get 9 (T10 .locals) u) (Row.get 10 (T10 .locals) u) (vs .0) (vs .1) (vs .2) (vs .3) (vs .4)) at30 (m8 (before
@@ -2137,18 +2155,33 @@ module _ (claims· : Claims) where
       abbrev pub Need-loop-less : Type 0
       Need-loop-less = (c : After-work) → Nat._<_ (μ·0 (Row.get 1 (T10 .locals) (m8 (c .before .before .before .before .before .before
           .before .before .before .before .before .before .before) (c .before .before .before .before .before .before .before .before
-          .before .before .before .before .slice-known .given)) .now) (Row.get 2 (T10 .locals) (m8 (c .before .before .before .before
+          .before .before .before .before .slice-known .given)) .now) (Row.get 2 (T10 .locals) (m8 (c .before .before .before .before  -- told apart: 8.
           .before .before .before .before .before .before .before .before .before) (c .before .before .before .before .before .before
-          .before .before .before .before .before .before .slice-known .given)) .now) (Row.get 3 (T10 .locals) (m8 (c .before .before
+          .before .before .before .before .before .before .slice-known .given)) .now) (Row.get 3 (T10 .locals) (m8 (c .before .before  -- told apart: 9.
           .before .before .before .before .before .before .before .before .before .before .before) (c .before .before .before .before
           .before .before .before .before .before .before .before .before .slice-known .given)) .now) (Row.get 7 (T10 .locals) (m8 (c
           .before .before .before .before .before .before .before .before .before .before .before .before .before) (c .before .before
           .before .before .before .before .before .before .before .before .before .before .slice-known .given))) (Row.get 8 (T10
+          -- told apart: 89.
+          -- told apart: 90.
           .locals) (m8 (c .before .before .before .before .before .before .before .before .before .before .before .before .before) (c
           .before .before .before .before .before .before .before .before .before .before .before .before .slice-known .given)))
           (Row.get 9 (T10 .locals) (m8 (c .before .before .before .before .before .before .before .before .before .before .before
           .before .before) (c .before .before .before .before .before .before .before .before .before .before .before .before
           .slice-known .given))) (Row.get 10 (T10 .locals) (m8 (c .before .before .before .before .before .before .before .before
+          -- told apart: 76.
+          -- told apart: 77.
+          -- told apart: 78.
+          -- told apart: 79.
+          -- told apart: 80.
+          -- told apart: 81.
+          -- told apart: 82.
+          -- told apart: 83.
+          -- told apart: 84.
+          -- told apart: 85.
+          -- told apart: 86.
+          -- told apart: 87.
+          -- told apart: 88.
           .before .before .before .before .before) (c .before .before .before .before .before .before .before .before .before .before
           .before .before .slice-known .given))) (Row.get 2 (T10 .locals) (m31 (c .before) (c .work .given)) .now) (Row.get 3 (T10
           .locals) (m31 (c .before) (c .work .given)) .now) (Row.get 8 (T10 .locals) (m31 (c .before) (c .work .given))) (Row.get 9 (T10
@@ -2156,17 +2189,17 @@ module _ (claims· : Claims) where
           (T10 .locals) (m8 (c .before .before .before .before .before .before .before .before .before .before .before .before .before)
           (c .before .before .before .before .before .before .before .before .before .before .before .before .slice-known .given)) .now)
           (Row.get 2 (T10 .locals) (m8 (c .before .before .before .before .before .before .before .before .before .before .before
-          .before .before) (c .before .before .before .before .before .before .before .before .before .before .before .before
+          .before .before) (c .before .before .before .before .before .before .before .before .before .before .before .before  -- told apart: 10.
           .slice-known .given)) .now) (Row.get 3 (T10 .locals) (m8 (c .before .before .before .before .before .before .before .before
-          .before .before .before .before .before) (c .before .before .before .before .before .before .before .before .before .before
-          .before .before .slice-known .given)) .now) (Row.get 7 (T10 .locals) (m8 (c .before .before .before .before .before .before
-          .before .before .before .before .before .before .before) (c .before .before .before .before .before .before .before .before
+          .before .before .before .before .before) (c .before .before .before .before .before .before .before .before .before .before  -- told apart: 11.
+          .before .before .slice-known .given)) .now) (Row.get 7 (T10 .locals) (m8 (c .before .before .before .before .before .before  -- told apart: 12.
+          .before .before .before .before .before .before .before) (c .before .before .before .before .before .before .before .before  -- told apart: 13.
           .before .before .before .before .slice-known .given))) (Row.get 8 (T10 .locals) (m8 (c .before .before .before .before .before
-          .before .before .before .before .before .before .before .before) (c .before .before .before .before .before .before .before
-          .before .before .before .before .before .slice-known .given))) (Row.get 9 (T10 .locals) (m8 (c .before .before .before .before
-          .before .before .before .before .before .before .before .before .before) (c .before .before .before .before .before .before
+          .before .before .before .before .before .before .before .before) (c .before .before .before .before .before .before .before  -- told apart: 14.
+          .before .before .before .before .before .slice-known .given))) (Row.get 9 (T10 .locals) (m8 (c .before .before .before .before  -- told apart: 15.
+          .before .before .before .before .before .before .before .before .before) (c .before .before .before .before .before .before  -- told apart: 16.
           .before .before .before .before .before .before .slice-known .given))) (Row.get 10 (T10 .locals) (m8 (c .before .before
-          .before .before .before .before .before .before .before .before .before .before .before) (c .before .before .before .before
+          .before .before .before .before .before .before .before .before .before .before .before) (c .before .before .before .before  -- told apart: 17.
           .before .before .before .before .before .before .before .before .slice-known .given))) (c .before .before .before .before
           .before .before .before .before .before .before .before .loop .terms) (c .before .before .before .before .before .before
           .before .before .before .before .before .loop .work) (c .before .before .before .before .before .before .before .before
@@ -2185,10 +2218,12 @@ module _ (claims· : Claims) where
           .before .before .before .before .before .before .before .before .before .slice-known .given))) (Row.get 8 (T10 .locals) (m8 (c
           .before .before .before .before .before .before .before .before .before .before .before .before .before) (c .before .before
           .before .before .before .before .before .before .before .before .before .before .slice-known .given))) (Row.get 9 (T10
+          -- told apart: 74.
+          -- told apart: 75.
           .locals) (m8 (c .before .before .before .before .before .before .before .before .before .before .before .before .before) (c
           .before .before .before .before .before .before .before .before .before .before .before .before .slice-known .given)))
           (Row.get 10 (T10 .locals) (m8 (c .before .before .before .before .before .before .before .before .before .before .before
-          .before .before) (c .before .before .before .before .before .before .before .before .before .before .before .before
+          .before .before) (c .before .before .before .before .before .before .before .before .before .before .before .before  -- told apart: 18.
           .slice-known .given))) (Row.get 2 (T10 .locals) (m31 (c .before) (c .work .given)) .now) (Row.get 3 (T10 .locals) (m31 (c
           .before) (c .work .given)) .now) (Row.get 8 (T10 .locals) (m31 (c .before) (c .work .given))) (Row.get 9 (T10 .locals) (m31 (c
           .before) (c .work .given))) (Row.get 10 (T10 .locals) (m31 (c .before) (c .work .given)))
@@ -2211,35 +2246,42 @@ module _ (claims· : Claims) where
       abbrev pub Need-loop-less-2 : Type 0
       Need-loop-less-2 = (c : Else1) → Nat._<_ (μ·0 (Row.get 1 (T10 .locals) (m8 (c .before .before .before .before .before .before
           .before) (c .before .before .before .before .before .before .slice-known .given)) .now) (Row.get 2 (T10 .locals) (m8 (c
+          -- told apart: 70.
+          -- told apart: 71.
+          -- told apart: 72.
+          -- told apart: 73.
           .before .before .before .before .before .before .before) (c .before .before .before .before .before .before .slice-known
           .given)) .now) (Row.get 3 (T10 .locals) (m8 (c .before .before .before .before .before .before .before) (c .before .before
           .before .before .before .before .slice-known .given)) .now) (Row.get 7 (T10 .locals) (m8 (c .before .before .before .before
           .before .before .before) (c .before .before .before .before .before .before .slice-known .given))) (Row.get 8 (T10 .locals)
-          (m8 (c .before .before .before .before .before .before .before) (c .before .before .before .before .before .before
+          (m8 (c .before .before .before .before .before .before .before) (c .before .before .before .before .before .before  -- told apart: 19.
           .slice-known .given))) (Row.get 9 (T10 .locals) (m8 (c .before .before .before .before .before .before .before) (c .before
           .before .before .before .before .before .slice-known .given))) (Row.get 10 (T10 .locals) (m8 (c .before .before .before
           .before .before .before .before) (c .before .before .before .before .before .before .slice-known .given))) (Row.get 2 (T10
           .locals) (m33 (c .before)) .now) (Row.get 3 (T10 .locals) (m33 (c .before)) .now) (Row.get 8 (T10 .locals) (m33 (c .before)))
           (Row.get 9 (T10 .locals) (m33 (c .before))) (Row.get 10 (T10 .locals) (m33 (c .before)))) (μ·0 (Row.get 1 (T10 .locals) (m8 (c
-          .before .before .before .before .before .before .before) (c .before .before .before .before .before .before .slice-known
+          .before .before .before .before .before .before .before) (c .before .before .before .before .before .before .slice-known  -- told apart: 20.
           .given)) .now) (Row.get 2 (T10 .locals) (m8 (c .before .before .before .before .before .before .before) (c .before .before
           .before .before .before .before .slice-known .given)) .now) (Row.get 3 (T10 .locals) (m8 (c .before .before .before .before
           .before .before .before) (c .before .before .before .before .before .before .slice-known .given)) .now) (Row.get 7 (T10
           .locals) (m8 (c .before .before .before .before .before .before .before) (c .before .before .before .before .before .before
           .slice-known .given))) (Row.get 8 (T10 .locals) (m8 (c .before .before .before .before .before .before .before) (c .before
-          .before .before .before .before .before .slice-known .given))) (Row.get 9 (T10 .locals) (m8 (c .before .before .before .before
+          .before .before .before .before .before .slice-known .given))) (Row.get 9 (T10 .locals) (m8 (c .before .before .before .before  -- told apart: 21.
           .before .before .before) (c .before .before .before .before .before .before .slice-known .given))) (Row.get 10 (T10 .locals)
-          (m8 (c .before .before .before .before .before .before .before) (c .before .before .before .before .before .before
+          (m8 (c .before .before .before .before .before .before .before) (c .before .before .before .before .before .before  -- told apart: 22.
           .slice-known .given))) (c .before .before .before .before .before .loop .terms) (c .before .before .before .before .before
           .loop .work) (c .before .before .before .before .before .loop .p) (c .before .before .before .before .before .loop .n) (c
           .before .before .before .before .before .loop .i))
+
+      -- told apart: 68.
+      -- told apart: 69.
 
       abbrev pub Need-loop-again-2 : Type 0
       Need-loop-again-2 = (c : Else1) → Inv·0 (Row.get 1 (T10 .locals) (m8 (c .before .before .before .before .before .before .before)
           (c .before .before .before .before .before .before .slice-known .given)) .now) (Row.get 2 (T10 .locals) (m8 (c .before .before
           .before .before .before .before .before) (c .before .before .before .before .before .before .slice-known .given)) .now)
           (Row.get 3 (T10 .locals) (m8 (c .before .before .before .before .before .before .before) (c .before .before .before .before
-          .before .before .slice-known .given)) .now) (Row.get 7 (T10 .locals) (m8 (c .before .before .before .before .before .before
+          .before .before .slice-known .given)) .now) (Row.get 7 (T10 .locals) (m8 (c .before .before .before .before .before .before  -- told apart: 23.
           .before) (c .before .before .before .before .before .before .slice-known .given))) (Row.get 8 (T10 .locals) (m8 (c .before
           .before .before .before .before .before .before) (c .before .before .before .before .before .before .slice-known .given)))
           (Row.get 9 (T10 .locals) (m8 (c .before .before .before .before .before .before .before) (c .before .before .before .before
@@ -2324,24 +2366,25 @@ module _ (claims· : Claims) where
             (
               Row.get 2 (T10 .locals) (m33 (c .before)) .now,
               Row.get 3 (T10 .locals) (m33 (c .before)) .now,
-              Row.get 8 (T10 .locals)
+              Row.get 8 (T10 .locals)  -- told apart: 24.
                   (m33 (c .before)),
               Row.get 9 (T10 .locals) (m33 (c .before)),
               Row.get 10 (T10 .locals) (m33 (c .before)),
+              -- told apart: 67.
             ),
             Path'.refl
                 {a = m33 (c .before)},
             loop-again-2 record { before = c .before; if1 = c .if1 },
             Path'.refl {a = μ·0 (Row.get 1 (T10
                 .locals) (m8 (c .before .before .before .before .before .before .before) (c .before .before .before .before .before .before
-                .slice-known .given)) .now) (Row.get 2 (T10 .locals) (m8 (c .before .before .before .before .before .before .before) (c
-                .before .before .before .before .before .before .slice-known .given)) .now) (Row.get 3 (T10 .locals) (m8 (c .before .before
+                .slice-known .given)) .now) (Row.get 2 (T10 .locals) (m8 (c .before .before .before .before .before .before .before) (c  -- told apart: 25.
+                .before .before .before .before .before .before .slice-known .given)) .now) (Row.get 3 (T10 .locals) (m8 (c .before .before  -- told apart: 26.
                 .before .before .before .before .before) (c .before .before .before .before .before .before .slice-known .given)) .now)
-                (Row.get 7 (T10 .locals) (m8 (c .before .before .before .before .before .before .before) (c .before .before .before .before
-                .before .before .slice-known .given))) (Row.get 8 (T10 .locals) (m8 (c .before .before .before .before .before .before
-                .before) (c .before .before .before .before .before .before .slice-known .given))) (Row.get 9 (T10 .locals) (m8 (c .before
+                (Row.get 7 (T10 .locals) (m8 (c .before .before .before .before .before .before .before) (c .before .before .before .before  -- told apart: 27.
+                .before .before .slice-known .given))) (Row.get 8 (T10 .locals) (m8 (c .before .before .before .before .before .before  -- told apart: 28.
+                .before) (c .before .before .before .before .before .before .slice-known .given))) (Row.get 9 (T10 .locals) (m8 (c .before  -- told apart: 29.
                 .before .before .before .before .before .before) (c .before .before .before .before .before .before .slice-known .given)))
-                (Row.get 10 (T10 .locals) (m8 (c .before .before .before .before .before .before .before) (c .before .before .before .before
+                (Row.get 10 (T10 .locals) (m8 (c .before .before .before .before .before .before .before) (c .before .before .before .before  -- told apart: 30.
                 .before .before .slice-known .given))) (Row.get 2 (T10 .locals) (m33 (c .before)) .now) (Row.get 3 (T10 .locals) (m33 (c
                 .before)) .now) (Row.get 8 (T10 .locals) (m33 (c .before))) (Row.get 9 (T10 .locals) (m33 (c .before))) (Row.get 10 (T10
                 .locals) (m33 (c .before)))},
@@ -2405,7 +2448,7 @@ module _ (claims· : Claims) where
                                   record { given = g'3 };
                             };
                             slice-known2 = record { given = g'4 };
-                          } g'5) .now) (Row.get 3 (T10 .locals) (m31 record {
+                          } g'5) .now) (Row.get 3 (T10 .locals) (m31 record {  -- told apart: 31.
                             before =
                                 record {
                                   before = record {
@@ -2434,7 +2477,7 @@ module _ (claims· : Claims) where
                                       record { given = g'3 };
                                 };
                             slice-known2 = record { given = g'4 };
-                          } g'5) .now) (Row.get 8 (T10 .locals) (m31 record {
+                          } g'5) .now) (Row.get 8 (T10 .locals) (m31 record {  -- told apart: 32.
                             before =
                                 record {
                                   before = record {
@@ -2463,7 +2506,7 @@ module _ (claims· : Claims) where
                                       record { given = g'3 };
                                 };
                             slice-known2 = record { given = g'4 };
-                          } g'5)) (Row.get 9 (T10 .locals) (m31 record {
+                          } g'5)) (Row.get 9 (T10 .locals) (m31 record {  -- told apart: 33.
                             before =
                                 record {
                                   before = record {
@@ -2492,7 +2535,7 @@ module _ (claims· : Claims) where
                                       record { given = g'3 };
                                 };
                             slice-known2 = record { given = g'4 };
-                          } g'5)) (Row.get 10 (T10 .locals) (m31 record {
+                          } g'5)) (Row.get 10 (T10 .locals) (m31 record {  -- told apart: 34.
                             before =
                                 record {
                                   before = record {
@@ -2648,33 +2691,38 @@ module _ (claims· : Claims) where
                             slice-known2 = record { given = g'4 };
                           } g'5),
                           Row.get 9 (T10 .locals) (m31 record {
-                            before =
-                                record {
-                                  before = record {
-                                    before = record {
-                                      before = record
-                                          { before = record { before = c .before; if1 = c .if1 }; fire-one-arg = record { given = g } };
-                                      fire-one-arg2 = record
-                                          { given = g' };
-                                    };
-                                    fire-one = Called.called ps·1 r·1 (claims· .3) T33 (
+                            before =  -- told apart: 35.
+                                record {  -- told apart: 36.
+                                  before = record {  -- told apart: 37.
+                                    before = record {  -- told apart: 38.
+                                      before = record  -- told apart: 39.
+                                          { before = record { before = c .before; if1 = c .if1 }; fire-one-arg = record { given = g } };  -- told apart: 40.
+                                      fire-one-arg2 = record  -- told apart: 41.
+                                          { given = g' };  -- told apart: 42.
+                                    };  -- told apart: 43.
+                                    fire-one = Called.called ps·1 r·1 (claims· .3) T33 ( -- told apart: 44.
+                                      -- told apart: 62.
+                                      -- told apart: 63.
+                                      -- told apart: 64.
+                                      -- told apart: 65.
+                                      -- told apart: 66.
                                       record
-                                          { pos = 1; ty = Syntax.tyRef (Syntax.named 0) Syntax.imm y10; ref = λ x. x },
-                                      (
-                                        record
-                                            { pos = 16; ty = Syntax.tyRef Syntax.erased Syntax.mut y4; ref = λ x. x },
-                                        (
-                                          record
-                                              { pos = 18; ty = Syntax.tyRef Syntax.erased Syntax.mut Element.named; ref = λ x. x },
-                                          (record { pos = 8; st = []; d = 0; at = λ x. x }, (Num.vAt 10 λ x. x, (Num.vAt 11 λ x. x, (Num.vAt 9 λ x. x, tt)))),
-                                        ),
-                                      ),
-                                    ) (m26
-                                        record { before = record { before = c .before; if1 = c .if1 }; fire-one-arg = record { given = g } } g') g'';
-                                  };
-                                  terms =
-                                      record { given = g'3 };
-                                };
+                                          { pos = 1; ty = Syntax.tyRef (Syntax.named 0) Syntax.imm y10; ref = λ x. x },  -- told apart: 45.
+                                      ( -- told apart: 46.
+                                        record  -- told apart: 47.
+                                            { pos = 16; ty = Syntax.tyRef Syntax.erased Syntax.mut y4; ref = λ x. x },  -- told apart: 48.
+                                        ( -- told apart: 49.
+                                          record  -- told apart: 50.
+                                              { pos = 18; ty = Syntax.tyRef Syntax.erased Syntax.mut Element.named; ref = λ x. x },  -- told apart: 51.
+                                          (record { pos = 8; st = []; d = 0; at = λ x. x }, (Num.vAt 10 λ x. x, (Num.vAt 11 λ x. x, (Num.vAt 9 λ x. x, tt)))),  -- told apart: 52.
+                                        ),  -- told apart: 53.
+                                      ),  -- told apart: 54.
+                                    ) (m26  -- told apart: 55.
+                                        record { before = record { before = c .before; if1 = c .if1 }; fire-one-arg = record { given = g } } g') g'';  -- told apart: 56.
+                                  };  -- told apart: 57.
+                                  terms =  -- told apart: 58.
+                                      record { given = g'3 };  -- told apart: 59.
+                                };  -- told apart: 60.
                             slice-known2 = record { given = g'4 };
                           } g'5),
                           Row.get 10 (T10 .locals) (m31 record {
@@ -3003,7 +3051,7 @@ module _ (claims· : Claims) where
             (
               Row.get 2 (T10 .locals) (m8 record { before = c; shared-slice-known = record { given = g } } g') .now,
               Row.get 3 (T10 .locals) (m8 record { before = c; shared-slice-known = record { given = g } } g') .now,
-              Row.get 8 (T10
+              Row.get 8 (T10  -- told apart: 61.
                   .locals) (m8 record { before = c; shared-slice-known = record { given = g } } g'),
               Row.get 9 (T10 .locals) (m8 record
                   { before = c; shared-slice-known = record { given = g } } g'),

@@ -997,7 +997,7 @@ module _ (claims· : Claims) where
         { pos = 23; ty = Syntax.tyRef Syntax.erased Syntax.mut y4; ref = λ x. x },
     (
       Num.vAt 7 λ x. x,
-      (Num.vLit 5, (Num.vAt 10 λ x. x, (Num.vAt 11 λ x. x, (Num.vLit 0, (Num.vLit 0, (Num.vLit 0, tt)))))),
+      (Num.vLit 5, (Num.vAt 10 λ x. x, (Num.vAt 11 λ x. x, (Num.vLit 0, (Num.vLit 0, (Num.vLit 0, tt)))))),  -- told apart: 1.
     ),
   ) 21 (6 ∷ []) Syntax.tyUnit
 
@@ -2658,7 +2658,7 @@ module _ (claims· : Claims) where
               { pos = 23; ty = Syntax.tyRef Syntax.erased Syntax.mut y4; ref = λ x. x },
           (
             Num.vAt 7 λ x. x,
-            (Num.vLit 5, (Num.vAt 10 λ x. x, (Num.vAt 11 λ x. x, (Num.vLit 0, (Num.vLit 0, (Num.vLit 0, tt)))))),
+            (Num.vLit 5, (Num.vAt 10 λ x. x, (Num.vAt 11 λ x. x, (Num.vLit 0, (Num.vLit 0, (Num.vLit 0, tt)))))),  -- told apart: 2.
           ),
         ) (m29 (before·
             .before) (before· .put-arg .given))
@@ -2673,7 +2673,7 @@ module _ (claims· : Claims) where
             { pos = 23; ty = Syntax.tyRef Syntax.erased Syntax.mut y4; ref = λ x. x },
         (
           Num.vAt 7 λ x. x,
-          (Num.vLit 5, (Num.vAt 10 λ x. x, (Num.vAt 11 λ x. x, (Num.vLit 0, (Num.vLit 0, (Num.vLit 0, tt)))))),
+          (Num.vLit 5, (Num.vAt 10 λ x. x, (Num.vAt 11 λ x. x, (Num.vLit 0, (Num.vLit 0, (Num.vLit 0, tt)))))),  -- told apart: 3.
         ),
       ) (m29 (c .before
           .before) (c .before .put-arg .given)) (c .put)

@@ -924,8 +924,8 @@ module _ (claims· : Claims) where
   s26 = Reshare.n-back-sl-shr Element.row T27 3 2 4 y18 Row.off λ x. x
 
   abbrev s28 : Typed.Mo T29 → Typed.Mo T31
-  s28 = Make.n-enum-make Answer.the-type T29 16 λ m. Answer.enum .make (Logic.inl
-      (m .1 .1 .1 .1 .1 .1 .1 .1 .0, (m .1 .1 .1 .1 .1 .0, tt)))
+  s28 = Make.n-enum-make Answer.the-type T29 16 λ m. Answer.enum .make (Logic.inl  -- told apart: 1.
+      (m .1 .1 .1 .1 .1 .1 .1 .1 .0, (m .1 .1 .1 .1 .1 .0, tt)))  -- told apart: 2.
 
   abbrev s29 : Typed.Mo T31 → Typed.Mo T32
   s29 = Scalar.n-room T31 5 y3
@@ -1619,35 +1619,39 @@ module _ (claims· : Claims) where
               Laws.the-laws Laws.the-plain tt G30 16 ((Scalar.oInt Syntax.w8 0) ∷ (Scalar.oAt 8 y0 (Row.valS (Row.sInt Syntax.w64))) ∷
               (Scalar.oAt 5 y3 (Laws'6.val State.the-type Laws'4.the-laws)) ∷ []) (λ m. Answer.enum .make (Logic.inl
               (m .1 .1 .1 .1 .1 .1 .1 .1 .0, (m .1 .1 .1 .1 .1 .0, tt)))) (Reads'.room-gone 𝓤 H A y4) (
-                tt,
+                tt,  -- told apart: 3.
+                -- told apart: 17.
+                -- told apart: 18.
                 (
                   (Scalar.reads-sc 𝓤 H A W (Row.sInt Syntax.w64), Path'.refl),
                   ((Reads.reads-struct 𝓤 H A W State.the-type Laws'4.the-laws, Path'.refl), tt),
-                ),
+                ),  -- told apart: 4.
               ) Path'.refl (λ m wa. Make.made-val
               Answer.the-type Laws.the-laws ((Laws.the-laws .0 .0 .val (m .1 .1 .1 .1 .1 .1 .1 .1 .0)) ∷ (Laws'6.val State.the-type
-              Laws'4.the-laws (m .1 .1 .1 .1 .1 .0)) ∷ []) (Answer.enum .make (Logic.inl
-              (m .1 .1 .1 .1 .1 .1 .1 .1 .0, (m .1 .1 .1 .1 .1 .0, tt)))) (
-                Signed.made-wt Field.u64-field (Laws.the-laws .0 .0)
+              Laws'4.the-laws (m .1 .1 .1 .1 .1 .0)) ∷ []) (Answer.enum .make (Logic.inl  -- told apart: 5.
+              (m .1 .1 .1 .1 .1 .1 .1 .1 .0, (m .1 .1 .1 .1 .1 .0, tt)))) ( -- told apart: 6.
+                Signed.made-wt Field.u64-field (Laws.the-laws .0 .0)  -- told apart: 7.
                     Make'.u64-wt (m .1 .1 .1 .1 .1 .1 .1 .1 .0),
-                (
-                  Signed.made-wt State.the-field Laws'4.the-field-laws (Make'.struct-wt
-                      State.the-type Laws'4.the-laws (Make'.u64-wt, (Make'.u64-wt, (Make'.u64-wt, (Make'.u64-wt, tt))))) (State.the-type .to (m
-                      .1 .1 .1 .1 .1 .0)),
+                ( -- told apart: 8.
+                  Signed.made-wt State.the-field Laws'4.the-field-laws (Make'.struct-wt  -- told apart: 9.
+                      State.the-type Laws'4.the-laws (Make'.u64-wt, (Make'.u64-wt, (Make'.u64-wt, (Make'.u64-wt, tt))))) (State.the-type .to (m  -- told apart: 10.
+                      .1 .1 .1 .1 .1 .0)),  -- told apart: 11.
                   tt,
                 ),
               ) (wa .1)) λ m wa. Make.made-is Answer.the-type Laws.the-laws ((Laws.the-laws .0 .0 .val (m .1 .1
               .1 .1 .1 .1 .1 .1 .0)) ∷ (Laws'6.val State.the-type Laws'4.the-laws (m .1 .1 .1 .1 .1 .0)) ∷ []) (Answer.enum .make
               (Logic.inl (m .1 .1 .1 .1 .1 .1 .1 .1 .0, (m .1 .1 .1 .1 .1 .0, tt)))) (
-                Signed.made-wt Field.u64-field (Laws.the-laws .0
+                Signed.made-wt Field.u64-field (Laws.the-laws .0  -- told apart: 12.
                     .0) Make'.u64-wt (m .1 .1 .1 .1 .1 .1 .1 .1 .0),
                 (
-                  Signed.made-wt State.the-field Laws'4.the-field-laws (Make'.struct-wt
-                      State.the-type Laws'4.the-laws (Make'.u64-wt, (Make'.u64-wt, (Make'.u64-wt, (Make'.u64-wt, tt))))) (State.the-type .to (m
-                      .1 .1 .1 .1 .1 .0)),
+                  Signed.made-wt State.the-field Laws'4.the-field-laws (Make'.struct-wt  -- told apart: 13.
+                      State.the-type Laws'4.the-laws (Make'.u64-wt, (Make'.u64-wt, (Make'.u64-wt, (Make'.u64-wt, tt))))) (State.the-type .to (m  -- told apart: 14.
+                      .1 .1 .1 .1 .1 .0)),  -- told apart: 15.
                   tt,
                 ),
               ) (wa .1)) d5
+
+          -- told apart: 16.
 
           d7 : Typed.Typed 𝓤 H A 𝓣 E G29 b13 Δ1 at7
           d7 = Typed.g-pre 𝓤 H A W 𝓣 E G29 G30 b13 Δ1 (λ Ψ. Ψ) at6 (Lifetime.g-forget 𝓤 H A W E G29 4 Row.dead Path'.refl) d6

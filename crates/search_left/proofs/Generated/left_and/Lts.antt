@@ -1241,7 +1241,7 @@ module _ (claims· : Claims) where
   s28 = Call.callB ps·1 r·1 (claims· .2) (claims· .3) T30 (
     record
         { pos = 22; ty = Syntax.tyRef Syntax.erased Syntax.mut y4; ref = λ x. x },
-    (Num.vAt 9 λ x. x, (Num.vLit 2, (Num.vAt 8 λ x. x, (Num.vLit 0, (Num.vLit 0, (Num.vLit 0, (Num.vLit 0, tt))))))),
+    (Num.vAt 9 λ x. x, (Num.vLit 2, (Num.vAt 8 λ x. x, (Num.vLit 0, (Num.vLit 0, (Num.vLit 0, (Num.vLit 0, tt))))))),  -- told apart: 1.
   ) 20 (3 ∷ [])
       Syntax.tyUnit
 
@@ -1265,7 +1265,7 @@ module _ (claims· : Claims) where
   s37 = Call.callB ps·1 r·1 (claims· .2) (claims· .3) T39 (
     record
         { pos = 24; ty = Syntax.tyRef Syntax.erased Syntax.mut y4; ref = λ x. x },
-    (Num.vAt 11 λ x. x, (Num.vLit 3, (Num.vAt 8 λ x. x, (Num.vLit 0, (Num.vLit 0, (Num.vLit 0, (Num.vLit 0, tt))))))),
+    (Num.vAt 11 λ x. x, (Num.vLit 3, (Num.vAt 8 λ x. x, (Num.vLit 0, (Num.vLit 0, (Num.vLit 0, (Num.vLit 0, tt))))))),  -- told apart: 2.
   ) 20 (4 ∷ [])
       Syntax.tyUnit
 
@@ -2519,7 +2519,7 @@ module _ (claims· : Claims) where
               (claims· .3) "proof_term::put" (known .1) E (λ pos β. β) G39 (
                 record
                     { pos = 24; ty = Syntax.tyRef Syntax.erased Syntax.mut y4; ref = λ x. x },
-                (Num.vAt 11 λ x. x, (Num.vLit 3, (Num.vAt 8 λ x. x, (Num.vLit 0, (Num.vLit 0, (Num.vLit 0, (Num.vLit 0, tt))))))),
+                (Num.vAt 11 λ x. x, (Num.vLit 3, (Num.vAt 8 λ x. x, (Num.vLit 0, (Num.vLit 0, (Num.vLit 0, (Num.vLit 0, tt))))))),  -- told apart: 3.
               ) 20 (4 ∷
               []) (Call.sub-id 𝓤 H A W (G39 .slots)) (
                 Reads'.as-is 𝓤 H A (Mut.mslice (Referent.rtF (Referent.fInt Syntax.w16)) y5 4),
@@ -2614,7 +2614,7 @@ module _ (claims· : Claims) where
               (claims· .3) "proof_term::put" (known .1) E (λ pos β. β) G30 (
                 record
                     { pos = 22; ty = Syntax.tyRef Syntax.erased Syntax.mut y4; ref = λ x. x },
-                (Num.vAt 9 λ x. x, (Num.vLit 2, (Num.vAt 8 λ x. x, (Num.vLit 0, (Num.vLit 0, (Num.vLit 0, (Num.vLit 0, tt))))))),
+                (Num.vAt 9 λ x. x, (Num.vLit 2, (Num.vAt 8 λ x. x, (Num.vLit 0, (Num.vLit 0, (Num.vLit 0, (Num.vLit 0, tt))))))),  -- told apart: 4.
               ) 20 (3 ∷
               []) (Call.sub-id 𝓤 H A W (G30 .slots)) (
                 Reads'.as-is 𝓤 H A (Mut.mslice (Referent.rtF (Referent.fInt Syntax.w16)) y5 3),
@@ -3118,7 +3118,7 @@ module _ (claims· : Claims) where
         After-put·own = Called.Called ps·1 r·1 (claims· .3) T30 (
           record
               { pos = 22; ty = Syntax.tyRef Syntax.erased Syntax.mut y4; ref = λ x. x },
-          (Num.vAt 9 λ x. x, (Num.vLit 2, (Num.vAt 8 λ x. x, (Num.vLit 0, (Num.vLit 0, (Num.vLit 0, (Num.vLit 0, tt))))))),
+          (Num.vAt 9 λ x. x, (Num.vLit 2, (Num.vAt 8 λ x. x, (Num.vLit 0, (Num.vLit 0, (Num.vLit 0, (Num.vLit 0, tt))))))),  -- told apart: 5.
         ) (m27
             (before· .before) (before· .put-arg .given))
 
@@ -3130,7 +3130,7 @@ module _ (claims· : Claims) where
       After-put·gave = λ c. Called.given ps·1 r·1 (claims· .3) T30 (
         record
             { pos = 22; ty = Syntax.tyRef Syntax.erased Syntax.mut y4; ref = λ x. x },
-        (Num.vAt 9 λ x. x, (Num.vLit 2, (Num.vAt 8 λ x. x, (Num.vLit 0, (Num.vLit 0, (Num.vLit 0, (Num.vLit 0, tt))))))),
+        (Num.vAt 9 λ x. x, (Num.vLit 2, (Num.vAt 8 λ x. x, (Num.vLit 0, (Num.vLit 0, (Num.vLit 0, (Num.vLit 0, tt))))))),  -- told apart: 6.
       ) (m27 (c
           .before .before) (c .before .put-arg .given)) (c .put)
 
@@ -3186,7 +3186,7 @@ module _ (claims· : Claims) where
         After-put2·own = Called.Called ps·1 r·1 (claims· .3) T39 (
           record
               { pos = 24; ty = Syntax.tyRef Syntax.erased Syntax.mut y4; ref = λ x. x },
-          (Num.vAt 11 λ x. x, (Num.vLit 3, (Num.vAt 8 λ x. x, (Num.vLit 0, (Num.vLit 0, (Num.vLit 0, (Num.vLit 0, tt))))))),
+          (Num.vAt 11 λ x. x, (Num.vLit 3, (Num.vAt 8 λ x. x, (Num.vLit 0, (Num.vLit 0, (Num.vLit 0, (Num.vLit 0, tt))))))),  -- told apart: 7.
         ) (m33
             (before· .before) (before· .put-arg2 .given))
 
@@ -3198,7 +3198,7 @@ module _ (claims· : Claims) where
       After-put2·gave = λ c. Called.given ps·1 r·1 (claims· .3) T39 (
         record
             { pos = 24; ty = Syntax.tyRef Syntax.erased Syntax.mut y4; ref = λ x. x },
-        (Num.vAt 11 λ x. x, (Num.vLit 3, (Num.vAt 8 λ x. x, (Num.vLit 0, (Num.vLit 0, (Num.vLit 0, (Num.vLit 0, tt))))))),
+        (Num.vAt 11 λ x. x, (Num.vLit 3, (Num.vAt 8 λ x. x, (Num.vLit 0, (Num.vLit 0, (Num.vLit 0, (Num.vLit 0, tt))))))),  -- told apart: 8.
       ) (m33 (c
           .before .before) (c .before .put-arg2 .given)) (c .put2)
 

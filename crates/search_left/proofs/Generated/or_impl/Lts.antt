@@ -2072,7 +2072,7 @@ module _ (claims· : Claims) where
         { pos = 46; ty = Syntax.tyRef Syntax.erased Syntax.mut y9; ref = λ x. x },
     (
       Num.vAt 12 λ x. x,
-      (Num.vAt 16 λ x. x, (Num.vLit 7, (Num.vAt 12 λ x. x, (Num.vLit 0, (Num.vAt 9 λ x. x, (Num.vAt 10 λ x. x, tt)))))),
+      (Num.vAt 16 λ x. x, (Num.vLit 7, (Num.vAt 12 λ x. x, (Num.vLit 0, (Num.vAt 9 λ x. x, (Num.vAt 10 λ x. x, tt)))))),  -- told apart: 1.
     ),
   ) 38 (10 ∷ [])
       Syntax.tyUnit
@@ -4322,7 +4322,7 @@ module _ (claims· : Claims) where
                     { pos = 46; ty = Syntax.tyRef Syntax.erased Syntax.mut y9; ref = λ x. x },
                 (
                   Num.vAt 12 λ x. x,
-                  (Num.vAt 16 λ x. x, (Num.vLit 7, (Num.vAt 12 λ x. x, (Num.vLit 0, (Num.vAt 9 λ x. x, (Num.vAt 10 λ x. x, tt)))))),
+                  (Num.vAt 16 λ x. x, (Num.vLit 7, (Num.vAt 12 λ x. x, (Num.vLit 0, (Num.vAt 9 λ x. x, (Num.vAt 10 λ x. x, tt)))))),  -- told apart: 2.
                 ),
               ) 38 (10
               ∷ []) (Call.sub-id 𝓤 H A W (G101 .slots)) (
@@ -6426,7 +6426,7 @@ module _ (claims· : Claims) where
               { pos = 46; ty = Syntax.tyRef Syntax.erased Syntax.mut y9; ref = λ x. x },
           (
             Num.vAt 12 λ x. x,
-            (Num.vAt 16 λ x. x, (Num.vLit 7, (Num.vAt 12 λ x. x, (Num.vLit 0, (Num.vAt 9 λ x. x, (Num.vAt 10 λ x. x, tt)))))),
+            (Num.vAt 16 λ x. x, (Num.vLit 7, (Num.vAt 12 λ x. x, (Num.vLit 0, (Num.vAt 9 λ x. x, (Num.vAt 10 λ x. x, tt)))))),  -- told apart: 3.
           ),
         ) (m80
             (before· .before) (before· .composed-arg .given))
@@ -6441,7 +6441,7 @@ module _ (claims· : Claims) where
             { pos = 46; ty = Syntax.tyRef Syntax.erased Syntax.mut y9; ref = λ x. x },
         (
           Num.vAt 12 λ x. x,
-          (Num.vAt 16 λ x. x, (Num.vLit 7, (Num.vAt 12 λ x. x, (Num.vLit 0, (Num.vAt 9 λ x. x, (Num.vAt 10 λ x. x, tt)))))),
+          (Num.vAt 16 λ x. x, (Num.vLit 7, (Num.vAt 12 λ x. x, (Num.vLit 0, (Num.vAt 9 λ x. x, (Num.vAt 10 λ x. x, tt)))))),  -- told apart: 4.
         ),
       ) (m80 (c
           .before .before) (c .before .composed-arg .given)) (c .composed)

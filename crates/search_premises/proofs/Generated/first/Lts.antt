@@ -2050,7 +2050,7 @@ module _ (claims· : Claims) where
   s110 = Call.callB ps·9 r·9 (claims· .18) (claims· .19) T112 (
     record
         { pos = 42; ty = Syntax.tyRef Syntax.erased Syntax.mut Element.named; ref = λ x. x },
-    (record { pos = 43; st = []; d = 0; at = λ x. x }, (Num.vAt 7 λ x. x, tt)),
+    (record { pos = 43; st = []; d = 0; at = λ x. x }, (Num.vAt 7 λ x. x, tt)),  -- told apart: 1.
   ) 17 (11 ∷ []) y1
 
   abbrev s111 : Typed.Mo T113 → Typed.Mo T114
@@ -3626,7 +3626,7 @@ module _ (claims· : Claims) where
                 record
                     { pos = 42; ty = Syntax.tyRef Syntax.erased Syntax.mut Element.named; ref = λ x. x },
                 (record { pos = 43; st = []; d = 0; at = λ x. x }, (Num.vAt 7 λ x. x, tt)),
-              ) 17 (11 ∷ []) (Call.sub-id 𝓤 H A W (G112
+              ) 17 (11 ∷ []) (Call.sub-id 𝓤 H A W (G112  -- told apart: 2.
               .slots)) (
                 Reads'.as-is 𝓤 H A (Mut.mslice Element.row y12 11),
                 Mut.reads-mslice 𝓤 H A W Element.row y12 11,
@@ -3639,9 +3639,9 @@ module _ (claims· : Claims) where
                         Sequent.the-type) ρ,
                     Path'.refl,
                   ),
-                  ((Scalar.reads-sc 𝓤 H A W (Row.sInt Syntax.w64), Path'.refl), tt),
+                  ((Scalar.reads-sc 𝓤 H A W (Row.sInt Syntax.w64), Path'.refl), tt),  -- told apart: 3.
                 ),
-              ) (Reads'.room-gone 𝓤
+              ) (Reads'.room-gone 𝓤  -- told apart: 4.
               H A y1) (tt, tt) Path'.refl) d44
 
           d46 : Typed.Typed 𝓤 H A 𝓣 E G111 b58 Δ0 at46
@@ -5920,7 +5920,7 @@ module _ (claims· : Claims) where
         After-remove·own = Called.Called ps·9 r·9 (claims· .19) T112 (
           record
               { pos = 42; ty = Syntax.tyRef Syntax.erased Syntax.mut Element.named; ref = λ x. x },
-          (record { pos = 43; st = []; d = 0; at = λ x. x }, (Num.vAt 7 λ x. x, tt)),
+          (record { pos = 43; st = []; d = 0; at = λ x. x }, (Num.vAt 7 λ x. x, tt)),  -- told apart: 5.
         ) (m85 (before· .before) (After-up·gave before·))
 
       pub record After-remove : Type 0 where
@@ -5931,8 +5931,8 @@ module _ (claims· : Claims) where
       After-remove·gave = λ c. Called.given ps·9 r·9 (claims· .19) T112 (
         record
             { pos = 42; ty = Syntax.tyRef Syntax.erased Syntax.mut Element.named; ref = λ x. x },
-        (record { pos = 43; st = []; d = 0; at = λ x. x }, (Num.vAt 7 λ x. x, tt)),
-      ) (m85 (c .before .before) (After-up·gave (c
+        (record { pos = 43; st = []; d = 0; at = λ x. x }, (Num.vAt 7 λ x. x, tt)),  -- told apart: 6.
+      ) (m85 (c .before .before) (After-up·gave (c  -- told apart: 7.
           .before))) (c .remove)
 
       abbrev pub m87 : (before : After-up) → (given : s110 .gives (m85 (before .before) (After-up·gave before))) → Typed.Mo T114
@@ -6259,7 +6259,7 @@ module _ (claims· : Claims) where
             remove = Called.called ps·9 r·9 (claims· .19) T112 (
               record
                   { pos = 42; ty = Syntax.tyRef Syntax.erased Syntax.mut Element.named; ref = λ x. x },
-              (record { pos = 43; st = []; d = 0; at = λ x. x }, (Num.vAt 7 λ x. x, tt)),
+              (record { pos = 43; st = []; d = 0; at = λ x. x }, (Num.vAt 7 λ x. x, tt)),  -- told apart: 8.
             ) (m85 (c .before) (After-up·gave c)) g;
           },
         )
