@@ -13,8 +13,9 @@ use Rattle.theory.specs.Layout.{Field, fieldsOf, pieceOf}
 use Rattle.theory.specs.Text.{bytes, formText, termText}
 use Rattle.theory.specs.Writer.{formDepth, termDepth}
 use Rattle.theory.proofs.TextByNode.{pieceText, pieceDepth}
+use Rattle.proof_term.specs.Kinds.{keywords, keyword}
 use Rattle.house_text.specs.Laid.{joined}
-use Rattle.house_text.specs.Pieces.{upTo, book, nodes, formPiece, termPiece, fieldPiece, keywords, keyword}
+use Rattle.house_text.specs.Pieces.{upTo, book, nodes, formPiece, termPiece, fieldPiece}
 use Rattle.house_text.proofs.Levels.{Whole, whole, above, alone, before-it, behind-it, beside, too-deep}
 
 -- the bytes of a name, by the side that it stands on
@@ -25,24 +26,6 @@ assumed-bytes names x h = rw (lt-ltb x 64 h, bytesOf)
 pub generated-bytes : (names : List (List ℕ)) (x : ℕ) → 64 ≤ x → spell (x - 64) ≡ bytesOf names x
 unfolding bytesOf
 generated-bytes names x h = rw (le-ltb x 64 h, bytesOf)
-
--- a kind that has no keyword of its own opens with a bracket alone
-pub bracket-alone : (k : ℕ) → (k ≡ 1 → ⊥) → (k ≡ 2 → ⊥) → (k ≡ 3 → ⊥) → (k ≡ 4 → ⊥) → (k ≡ 5 → ⊥) → (k ≡ 7 → ⊥) → (k ≡ 8 → ⊥) →
-    (k ≡ 9 → ⊥) → (k ≡ 10 → ⊥) → (k ≡ 11 → ⊥) → bytes "(" ≡ keyword k
-unfolding keyword keywords
-bracket-alone zero _ _ _ _ _ _ _ _ _ _ = refl
-bracket-alone (suc zero) n _ _ _ _ _ _ _ _ _ = absurd (n refl)
-bracket-alone (suc (suc zero)) _ n _ _ _ _ _ _ _ _ = absurd (n refl)
-bracket-alone (suc (suc (suc zero))) _ _ n _ _ _ _ _ _ _ = absurd (n refl)
-bracket-alone (suc (suc (suc (suc zero)))) _ _ _ n _ _ _ _ _ _ = absurd (n refl)
-bracket-alone (suc (suc (suc (suc (suc zero))))) _ _ _ _ n _ _ _ _ _ = absurd (n refl)
-bracket-alone (suc (suc (suc (suc (suc (suc zero)))))) _ _ _ _ _ _ _ _ _ _ = refl
-bracket-alone (suc (suc (suc (suc (suc (suc (suc zero))))))) _ _ _ _ _ n _ _ _ _ = absurd (n refl)
-bracket-alone (suc (suc (suc (suc (suc (suc (suc (suc zero)))))))) _ _ _ _ _ _ n _ _ _ = absurd (n refl)
-bracket-alone (suc (suc (suc (suc (suc (suc (suc (suc (suc zero))))))))) _ _ _ _ _ _ _ n _ _ = absurd (n refl)
-bracket-alone (suc (suc (suc (suc (suc (suc (suc (suc (suc (suc zero)))))))))) _ _ _ _ _ _ _ _ n _ = absurd (n refl)
-bracket-alone (suc (suc (suc (suc (suc (suc (suc (suc (suc (suc (suc zero))))))))))) _ _ _ _ _ _ _ _ _ n = absurd (n refl)
-bracket-alone (suc (suc (suc (suc (suc (suc (suc (suc (suc (suc (suc (suc k)))))))))))) _ _ _ _ _ _ _ _ _ _ = refl
 
 -- every term has a node
 term-deep : (t : Term) → 0 < termDepth t
@@ -80,19 +63,23 @@ module _ (words terms : List ℕ) (names : List (List ℕ)) where
       let t : Term = term (book words) (nodes terms) i in
       sym (too-deep levels (termDepth t) (termText names t) (omega (arith, term-deep t)))
 
-  -- the fields of a node, one behind another, and a bracket; a refused kind has none
+  -- the fields of a node, one behind another, and a bracket
   abbrev pub fieldsPiece : ℕ → List Field → List ℕ → Option (List ℕ)
   fieldsPiece l [] xs = some (bytes ")")
   fieldsPiece l (f ∷ fs) [] = some (bytes ")")
   fieldsPiece l (f ∷ fs) (x ∷ xs) = joined (fieldPiece words terms names l f x) (fieldsPiece l fs xs)
 
-  abbrev pub heldPiece : ℕ → Option (List Field) → List ℕ → Option (List ℕ)
-  heldPiece l none xs = some (bytes ")")
-  heldPiece l (some fs) xs = fieldsPiece l fs xs
-
   module _ (l a b c d e : ℕ) where
-    abbrev pub held : ℕ → Option (List ℕ)
-    held k = joined (some (keyword k)) (heldPiece l (fieldsOf k) (a ∷ b ∷ c ∷ d ∷ e ∷ []))
+    -- a node by what its kind's fields hold and its keyword: a name alone, or the keyword and the fields. A refused kind says nothing
+    abbrev pub shown : Option (List Field) → List ℕ → Option (List ℕ)
+    shown none w = some (bytes "()")
+    shown (some fs) [] = some (bytesOf names a)
+    shown (some fs) (x ∷ w) = joined (some (x ∷ w)) (fieldsPiece l fs (a ∷ b ∷ c ∷ d ∷ e ∷ []))
+
+    pub shown-fields : (fs : List Field) (w : List ℕ) → (w ≡ [] → ⊥) →
+        joined (some w) (fieldsPiece l fs (a ∷ b ∷ c ∷ d ∷ e ∷ [])) ≡ shown (some fs) w
+    shown-fields fs [] n = absurd (n refl)
+    shown-fields fs (x ∷ w) n = refl
 
     -- a child, and a formula, behind a space
     abbrev childPiece : (x : ℕ) →
@@ -104,27 +91,27 @@ module _ (words terms : List ℕ) (names : List (List ℕ)) where
     ascribedPiece x = before-it (bytes " ") (whole l (formulaDepth x) (formulaText x))
 
     -- the kinds one by one
-    pub held-piece : (k : ℕ) → (k ≡ 0 → ⊥) →
-        Whole (held k) (suc l) (pieceDepth childDepth formulaDepth (pieceOf k a b c d e))
+    pub shown-piece : (k : ℕ) →
+        Whole (shown (fieldsOf k) (keyword k)) (suc l) (pieceDepth childDepth formulaDepth (pieceOf k a b c d e))
         (pieceText names childText formulaText (pieceOf k a b c d e))
     unfolding keyword keywords fieldsOf pieceOf fieldPiece formPiece termPiece joined bytes
-    held-piece zero n = absurd (n refl)
-    held-piece (suc zero) n = above (before-it (keyword 1) (beside (childPiece a) (behind-it (childPiece b) (bytes ")"))))
-    held-piece (suc (suc zero)) n = above (before-it (keyword 2) (behind-it (childPiece a) (bytes ")")))
-    held-piece (suc (suc (suc zero))) n = above (before-it (keyword 3) (behind-it (childPiece a) (bytes ")")))
-    held-piece (suc (suc (suc (suc zero)))) n =
+    shown-piece zero = alone l (bytesOf names a)
+    shown-piece (suc zero) = above (before-it (keyword 1) (beside (childPiece a) (behind-it (childPiece b) (bytes ")"))))
+    shown-piece (suc (suc zero)) = above (before-it (keyword 2) (behind-it (childPiece a) (bytes ")")))
+    shown-piece (suc (suc (suc zero))) = above (before-it (keyword 3) (behind-it (childPiece a) (bytes ")")))
+    shown-piece (suc (suc (suc (suc zero)))) =
         above (before-it (keyword 4) (before-it (bytes " " ++ bytesOf names a) (behind-it (childPiece b) (bytes ")"))))
-    held-piece (suc (suc (suc (suc (suc zero))))) n =
+    shown-piece (suc (suc (suc (suc (suc zero))))) =
         above (before-it (keyword 5) (beside (childPiece a) (behind-it (childPiece b) (bytes ")"))))
-    held-piece (suc (suc (suc (suc (suc (suc zero)))))) n = alone l (bytes "()")
-    held-piece (suc (suc (suc (suc (suc (suc (suc zero))))))) n = above (before-it (keyword 7) (behind-it (childPiece a) (bytes ")")))
-    held-piece (suc (suc (suc (suc (suc (suc (suc (suc zero)))))))) n = above (before-it (keyword 8) (behind-it (childPiece a) (bytes ")")))
-    held-piece (suc (suc (suc (suc (suc (suc (suc (suc (suc zero))))))))) n =
+    shown-piece (suc (suc (suc (suc (suc (suc zero)))))) = alone l (bytes "()")
+    shown-piece (suc (suc (suc (suc (suc (suc (suc zero))))))) = above (before-it (keyword 7) (behind-it (childPiece a) (bytes ")")))
+    shown-piece (suc (suc (suc (suc (suc (suc (suc (suc zero)))))))) = above (before-it (keyword 8) (behind-it (childPiece a) (bytes ")")))
+    shown-piece (suc (suc (suc (suc (suc (suc (suc (suc (suc zero))))))))) =
         above (before-it (keyword 9) (beside (childPiece a) (before-it (bytes " " ++ bytesOf names b)
         (beside (childPiece c) (before-it (bytes " " ++ bytesOf names d) (behind-it (childPiece e) (bytes ")")))))))
-    held-piece (suc (suc (suc (suc (suc (suc (suc (suc (suc (suc zero)))))))))) n =
+    shown-piece (suc (suc (suc (suc (suc (suc (suc (suc (suc (suc zero)))))))))) =
         above (before-it (keyword 10) (behind-it (childPiece a) (bytes ")")))
-    held-piece (suc (suc (suc (suc (suc (suc (suc (suc (suc (suc (suc zero))))))))))) n =
+    shown-piece (suc (suc (suc (suc (suc (suc (suc (suc (suc (suc (suc zero))))))))))) =
         above (before-it (keyword 11) (beside (childPiece a) (behind-it (ascribedPiece b) (bytes ")"))))
-    held-piece (suc (suc (suc (suc (suc (suc (suc (suc (suc (suc (suc (suc zero)))))))))))) n = alone l (bytes "()")
-    held-piece (suc (suc (suc (suc (suc (suc (suc (suc (suc (suc (suc (suc (suc k))))))))))))) n = alone l (bytes "()")
+    shown-piece (suc (suc (suc (suc (suc (suc (suc (suc (suc (suc (suc (suc zero)))))))))))) = alone l (bytes "()")
+    shown-piece (suc (suc (suc (suc (suc (suc (suc (suc (suc (suc (suc (suc (suc k))))))))))))) = alone l (bytes "()")

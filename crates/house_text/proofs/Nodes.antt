@@ -13,11 +13,12 @@ use Rattle.theory.proofs.TextByNode.{pieceText, pieceDepth, text-by-node, depth
 use Rattle.proof_term.specs.declared.Field as declared-field
 use Rattle.proof_term.specs.declared.Fields.{Fields}
 use Rattle.proof_term.specs.declared.Fields.the-variants.{Held, Refused}
-use Rattle.proof_term.specs.Kinds.{fieldAs, fieldsAs}
+use Rattle.proof_term.specs.Kinds.{fieldAs, fieldsAs, keyword, word, wordAs, Settles}
+use Rattle.proof_term.proofs.KindLaws.{no-word, some-word, word-inside}
 use Rattle.house_text.specs.Laid.{joined}
-use Rattle.house_text.specs.Pieces.{upTo, book, nodes, Given, FieldIn, termPiece, fieldPiece, keyword}
-use Rattle.house_text.proofs.Levels.{Whole, alone}
-use Rattle.house_text.proofs.NodePieces.{formulaText, formulaDepth, childText, childDepth, heldPiece, held-piece}
+use Rattle.house_text.specs.Pieces.{upTo, book, nodes, Given, FieldIn, termPiece, fieldPiece}
+use Rattle.house_text.proofs.Levels.{Whole}
+use Rattle.house_text.proofs.NodePieces.{formulaText, formulaDepth, childText, childDepth, shown, shown-fields, shown-piece}
 
 -- fields that all refer to formulas below m and nodes below n
 abbrev FieldsIn : ℕ → ℕ → List Field → List ℕ → Type 0
@@ -94,15 +95,16 @@ module _ {words terms : List ℕ} {i k : ℕ} (n : NodeRead words terms i k) {a 
     Below f x = (weight (fieldAs f) x < i + i + 1) × FieldIn (length words) (length terms / nodeWidth) (fieldAs f) x
 
     -- the fields of a node lie below it
-    pub fields-below : {r : Fields} {p q u v w : declared-field.Field} → fieldsAs r ≡ fieldsOf k → r ≡ Held p q u v w →
+    pub fields-below : {r : Fields} {start end : ℕ} {p q u v w : declared-field.Field} → Settles r k → r ≡ Held start end p q u v w →
         Below p a × Below q b × Below u c × Below v d × Below w e
-    fields-below {r} {p} {q} {u} {v} {w} h s =
+    fields-below {r} {start} {end} {p} {q} {u} {v} {w} h s =
         let m : ℕ = length words in
         let falls : (f : declared-field.Field) (x : ℕ) → FieldIn m i (fieldAs f) x → Below f x =
         λ f x. field-falls m i (length terms / nodeWidth) (fieldAs f) x (n .inside) in
         let here : NodeIn m i (pieceOf k a b c d e) = subst (NodeIn m i) seen (node-in m (nodes terms) (n .given .lawful) i in-nodes) in
         let f : FieldsIn m i (fieldAs p ∷ fieldAs q ∷ fieldAs u ∷ fieldAs v ∷ fieldAs w ∷ []) (a ∷ b ∷ c ∷ d ∷ e ∷ []) =
-        subst (λ (o : Option (List Field)). HeldIn m i o (a ∷ b ∷ c ∷ d ∷ e ∷ [])) (sym h ∙ ap fieldsAs s) (held-in m i k a b c d e here) in
+        subst (λ (o : Option (List Field)). HeldIn m i o (a ∷ b ∷ c ∷ d ∷ e ∷ [])) (sym (h .layout) ∙ ap fieldsAs s)
+        (held-in m i k a b c d e here) in
         (falls p a (f .0), falls q b (f .1 .0), falls u c (f .1 .1 .0), falls v d (f .1 .1 .1 .0), falls w e (f .1 .1 .1 .1 .0))
 
     module _ (names : List (List ℕ)) (levels : ℕ) (some-left : levels ≡ 0 → ⊥) where
@@ -126,43 +128,47 @@ module _ {words terms : List ℕ} {i k : ℕ} (n : NodeRead words terms i k) {a 
           sym (text-by-node (book words) (nodes terms) names (length words) (n .given .lawful) i in-nodes ∙ ap texts seen) in
           w .is ∙ ap (λ (m : ℕ). upTo m (depths s) (texts s)) more ∙ ap₂ (upTo levels) depth text
 
-      -- an Ident
-      pub name-piece : k ≡ 0 → some (bytesOf names a) ≡ termPiece words terms names levels i
-      unfolding pieceOf
-      name-piece z =
-          let x : List ℕ = bytesOf names a in
-          by-node (subst (λ (m : ℕ). Whole (some x) (suc (levels - 1)) (depths (pieceOf m a b c d e)) (texts (pieceOf m a b c d e))) (sym z)
-          (alone (levels - 1) x))
+      -- the fields and the keyword that the one decision gave
+      decided-piece : (o : Option (List Field)) (w : List ℕ) → fieldsOf k ≡ o → keyword k ≡ w →
+          shown words terms names (levels - 1) a b c d e o w ≡ termPiece words terms names levels i
+      decided-piece o w h z =
+          ap₂ (shown words terms names (levels - 1) a b c d e) (sym h) (sym z)
+          ∙ by-node (shown-piece words terms names (levels - 1) a b c d e k)
 
-      abbrev behind : Option (List Field) → Option (List ℕ)
-      behind o = joined (some (keyword k)) (heldPiece words terms names (levels - 1) o (a ∷ b ∷ c ∷ d ∷ e ∷ []))
-
-      -- any other kind
-      node-piece : (o : Option (List Field)) → fieldsOf k ≡ o → (k ≡ 0 → ⊥) → behind o ≡ termPiece words terms names levels i
-      node-piece o h z = ap behind (sym h) ∙ by-node (held-piece words terms names (levels - 1) a b c d e k z)
-
-      pub refused-piece : {r : Fields} → fieldsAs r ≡ fieldsOf k → r ≡ Refused → (k ≡ 0 → ⊥) →
-          joined (some (keyword k)) (some (bytes ")")) ≡ termPiece words terms names levels i
-      refused-piece h s z = node-piece none (sym h ∙ ap fieldsAs s) z
+      pub refused-piece : {r : Fields} → Settles r k → r ≡ Refused → some (bytes "()") ≡ termPiece words terms names levels i
+      refused-piece h s = decided-piece none (keyword k) (sym (h .layout) ∙ ap fieldsAs s) refl
 
       -- a field of the node
       abbrev held : declared-field.Field → ℕ → Option (List ℕ)
       held f x = fieldPiece words terms names (levels - 1) (fieldAs f) x
 
-      pub fields-piece : {r : Fields} {p q u v w : declared-field.Field} → fieldsAs r ≡ fieldsOf k → r ≡ Held p q u v w → (k ≡ 0 → ⊥) →
-          joined (some (keyword k)) (joined (held p a) (joined (held q b) (joined (held u c) (joined (held v d)
-          (joined (held w e) (some (bytes ")"))))))) ≡ termPiece words terms names levels i
-      fields-piece {r} {p} {q} {u} {v} {w} h s z =
-          node-piece (some (fieldAs p ∷ fieldAs q ∷ fieldAs u ∷ fieldAs v ∷ fieldAs w ∷ [])) (sym h ∙ ap fieldsAs s) z
+      module _ {r : Fields} {start end : ℕ} {p q u v w : declared-field.Field} (h : Settles r k) (s : r ≡ Held start end p q u v w) where
+        abbrev fields : List Field
+        fields = fieldAs p ∷ fieldAs q ∷ fieldAs u ∷ fieldAs v ∷ fieldAs w ∷ []
 
--- what is known of a field is known of the one that the match found
-pub field-told : (m n x : ℕ) {f h : declared-field.Field} → f ≡ h → FieldIn m n (fieldAs f) x → FieldIn m n (fieldAs h) x
-field-told m n x e g = subst (λ (k : declared-field.Field). FieldIn m n (fieldAs k) x) e g
+        -- an Ident, which has no keyword
+        pub name-piece : start ≡ end → some (bytesOf names a) ≡ termPiece words terms names levels i
+        name-piece z =
+            decided-piece (some fields) [] (sym (h .layout) ∙ ap fieldsAs s) (sym (h .printing) ∙ ap wordAs s ∙ no-word start end z)
 
-pub weight-told : (x : ℕ) {f h : declared-field.Field} → f ≡ h → weight (fieldAs h) x ≡ weight (fieldAs f) x
-weight-told x e = ap (λ (k : declared-field.Field). weight (fieldAs k) x) (sym e)
+        -- any other kind
+        pub fields-piece : (start ≡ end → ⊥) →
+            joined (some (word start end)) (joined (held p a) (joined (held q b) (joined (held u c) (joined (held v d)
+            (joined (held w e) (some (bytes ")"))))))) ≡ termPiece words terms names levels i
+        fields-piece z =
+            shown-fields words terms names (levels - 1) a b c d e fields (word start end)
+            (some-word start end (word-inside h s) z)
+            ∙ decided-piece (some fields) (word start end) (sym (h .layout) ∙ ap fieldsAs s) (sym (h .printing) ∙ ap wordAs s)
 
-pub piece-told : (words terms : List ℕ) (names : List (List ℕ)) (levels x : ℕ) {f h : declared-field.Field} → f ≡ h →
-    fieldPiece words terms names levels (fieldAs h) x ≡ fieldPiece words terms names levels (fieldAs f) x
-piece-told words terms names levels x e =
-    ap (λ (k : declared-field.Field). fieldPiece words terms names levels (fieldAs k) x) (sym e)
+-- what is known of a field is known of the one that the match found, at the number that was read
+pub field-told : (m n : ℕ) {x y : ℕ} {f h : declared-field.Field} → f ≡ h → x ≡ y → FieldIn m n (fieldAs f) y → FieldIn m n (fieldAs h) x
+field-told m n {x} {y} {f} {h} e r g =
+    subst (λ (k : declared-field.Field). FieldIn m n (fieldAs k) x) e (subst (FieldIn m n (fieldAs f)) (sym r) g)
+
+pub weight-told : {x y : ℕ} {f h : declared-field.Field} → f ≡ h → x ≡ y → weight (fieldAs h) x ≡ weight (fieldAs f) y
+weight-told e r = ap₂ (λ (k : declared-field.Field) (n : ℕ). weight (fieldAs k) n) (sym e) r
+
+pub piece-told : (words terms : List ℕ) (names : List (List ℕ)) (levels : ℕ) {x y : ℕ} {f h : declared-field.Field} → f ≡ h → x ≡ y →
+    fieldPiece words terms names levels (fieldAs h) x ≡ fieldPiece words terms names levels (fieldAs f) y
+piece-told words terms names levels e r =
+    ap₂ (λ (k : declared-field.Field) (n : ℕ). fieldPiece words terms names levels (fieldAs k) n) (sym e) r

@@ -4,7 +4,7 @@ use mathlib.Core.Bool.{true, false}
 use mathlib.Core.Option.{Option, none, some}
 use mathlib.Core.List.{List, [], _∷_, map}
 use lib.Dec.{leb, eqb}
-use lib.ListN.{length, getD}
+use lib.ListN.{length}
 use Rattle.theory.specs.Form.{Book, Good, shape, form}
 use Rattle.theory.specs.Term.{Node, NodesFrom, term}
 use Rattle.theory.specs.Names.{bytesOf}
@@ -59,12 +59,3 @@ module _ (words terms : List ℕ) (names : List (List ℕ)) where
 -- "(& A B), (| A B), (> A B)": what stands before the halves
 unfoldable pub opening : ℕ → List ℕ
 opening k = elim (eqb k 3) [ true ↦ bytes "(& " | false ↦ elim (eqb k 4) [ true ↦ bytes "(| " | false ↦ bytes "(> " ] ]
-
--- "(pair s t), (fst t), .., (as t A)", and "()" for a Unit: what stands before the fields of a node that is no Ident, by its kind
-unfoldable pub keywords : List (List ℕ)
-keywords =
-    bytes "(" ∷ bytes "(pair" ∷ bytes "(fst" ∷ bytes "(snd" ∷ bytes "(fn" ∷ bytes "(app" ∷ bytes "(" ∷ bytes "(inl" ∷ bytes "(inr" ∷
-    bytes "(case" ∷ bytes "(abort" ∷ bytes "(as" ∷ []
-
-unfoldable pub keyword : ℕ → List ℕ
-keyword k = getD keywords k (bytes "(")

@@ -4,7 +4,7 @@ ghost use mathlib.Core.Bool.{_&&_};
 ghost use mathlib.Core.Option.{some};
 ghost use mathlib.Core.List.{[], _∷_, _++_};
 ghost use Prim.Native.Nat.{_-_, _/_, _≤_, _<_};
-ghost use lib.ListN.{length, take, replicate};
+ghost use lib.ListN.{length, getD, take, replicate};
 ghost use Rattle.theory.specs.Term.{term};
 ghost use Rattle.theory.specs.Names.{spell, bytesOf};
 ghost use Rattle.theory.specs.NameText.{namesIn};
@@ -15,7 +15,7 @@ ghost use Rattle.theory.specs.Writer.{writerRefusal, textFitted, written};
 ghost use Rattle.identifier_generator.specs.Handed.{Hands, HandsPart};
 ghost use Rattle.proof_term.specs.Kinds.{fieldAs};
 ghost use Rattle.house_text.specs.Laid.{Laid};
-ghost use Rattle.house_text.specs.Pieces.{opening, keyword, formPiece, termPiece, fieldPiece, book, nodes, Given, GoodWords, FieldIn};
+ghost use Rattle.house_text.specs.Pieces.{opening, formPiece, termPiece, fieldPiece, book, nodes, Given, GoodWords, FieldIn};
 ghost use Rattle.refusal.specs.Table.{refusedBy};
 ghost use Rattle.house_text.specs.Drafted.{draft};
 use identifier_generator::GENERATED;
@@ -153,26 +153,7 @@ fn lay_formula(buf: &mut [u8], at: usize, words: &[u32], i: usize, levels: usize
     lay(buf, two, b")")
 }
 
-// The keyword of a kind, with its bracket.
-fn lay_keyword(buf: &mut [u8], at: usize, kind: usize) -> usize
-    ensures { λ r. ⌜ Laid (some (keyword kind)) (now (buf .entry)) at (now (buf .exit)) r ⌝ }
-{
-    match kind {
-        proof_term::PAIR => lay(buf, at, b"(pair"),
-        proof_term::PROJECT_FST => lay(buf, at, b"(fst"),
-        proof_term::PROJECT_SND => lay(buf, at, b"(snd"),
-        proof_term::FUNCTION => lay(buf, at, b"(fn"),
-        proof_term::APPLICATION => lay(buf, at, b"(app"),
-        proof_term::OR_LEFT => lay(buf, at, b"(inl"),
-        proof_term::OR_RIGHT => lay(buf, at, b"(inr"),
-        proof_term::CASE => lay(buf, at, b"(case"),
-        proof_term::ABORT => lay(buf, at, b"(abort"),
-        proof_term::ASCRIPTION => lay(buf, at, b"(as"),
-        _ => lay(buf, at, b"("),
-    }
-}
-
-// A field `x` of a node, behind a space.
+// A field of a node, number `place` of the nodes, behind a space.
 fn lay_field(
     buf: &mut [u8],
     at: usize,
@@ -180,14 +161,15 @@ fn lay_field(
     terms: &[u16],
     names: &[u8],
     what: Field,
-    x: usize,
+    place: usize,
     levels: usize,
 ) -> usize
     requires given { ⌜ Given (now words) (now terms) ⌝ }
-    requires field { ⌜ FieldIn (length (now words)) (length (now terms) / nodeWidth) (fieldAs what) x ⌝ }
-    ensures { λ r. ⌜ Laid (fieldPiece (now (words .entry)) (now (terms .entry)) (namesIn (now (names .entry))) levels (fieldAs what) x)
-        (now (buf .entry)) at (now (buf .exit)) r ⌝ }
+    requires field { ⌜ FieldIn (length (now words)) (length (now terms) / nodeWidth) (fieldAs what) (getD (now terms) place 0) ⌝ }
+    ensures { λ r. ⌜ Laid (fieldPiece (now (words .entry)) (now (terms .entry)) (namesIn (now (names .entry))) levels (fieldAs what)
+        (getD (now (terms .entry)) place 0)) (now (buf .entry)) at (now (buf .exit)) r ⌝ }
 {
+    let x = number(terms, place);
     match what {
         Field::Unused => at,
         Field::Name => {
@@ -205,7 +187,8 @@ fn lay_field(
     }
 }
 
-// The term at node `i`, of which at most `levels` nodes may stand on a path. Its children have smaller indices.
+// The term at node `i`, of which at most `levels` nodes may stand on a path. Its children have smaller indices. The tests let no kind pass
+// that is refused; the definition reads one as a Unit.
 fn lay_term(
     buf: &mut [u8],
     at: usize,
@@ -227,68 +210,21 @@ fn lay_term(
         return at;
     }
     let node = i * WIDTH;
-    let kind = number(terms, node);
-    if kind == proof_term::IDENT {
+    let Fields::Held(start, end, a, b, c, d, e) = proof_term::fields_of(number(terms, node)) else {
+        return lay(buf, at, b"()");
+    };
+    // an Ident has no keyword: its name stands alone
+    if start == end {
         return lay_name(buf, at, names, number(terms, node + 1));
     }
     let below = levels - 1;
-    let opened = lay_keyword(buf, at, kind);
-    match proof_term::fields_of(kind) {
-        Fields::Held(a, b, c, d, e) => {
-            let first = lay_field(
-                buf,
-                opened,
-                words,
-                terms,
-                names,
-                a,
-                number(terms, node + 1),
-                below,
-            );
-            let second = lay_field(
-                buf,
-                first,
-                words,
-                terms,
-                names,
-                b,
-                number(terms, node + 2),
-                below,
-            );
-            let third = lay_field(
-                buf,
-                second,
-                words,
-                terms,
-                names,
-                c,
-                number(terms, node + 3),
-                below,
-            );
-            let fourth = lay_field(
-                buf,
-                third,
-                words,
-                terms,
-                names,
-                d,
-                number(terms, node + 4),
-                below,
-            );
-            let fifth = lay_field(
-                buf,
-                fourth,
-                words,
-                terms,
-                names,
-                e,
-                number(terms, node + 5),
-                below,
-            );
-            lay(buf, fifth, b")")
-        }
-        Fields::Refused => lay(buf, opened, b")"),
-    }
+    let opened = lay(buf, at, &proof_term::KEYWORDS[start..end]);
+    let first = lay_field(buf, opened, words, terms, names, a, node + 1, below);
+    let second = lay_field(buf, first, words, terms, names, b, node + 2, below);
+    let third = lay_field(buf, second, words, terms, names, c, node + 3, below);
+    let fourth = lay_field(buf, third, words, terms, names, d, node + 4, below);
+    let fifth = lay_field(buf, fourth, words, terms, names, e, node + 5, below);
+    lay(buf, fifth, b")")
 }
 
 // 1: the sizes of both slices.

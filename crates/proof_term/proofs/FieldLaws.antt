@@ -11,7 +11,7 @@ use Rattle.theory.specs.Layout.{nodeWidth, fieldsOf, lawfulField, lawfulFields,
 use Rattle.proof_term.specs.declared.Field.{Field}
 use Rattle.proof_term.specs.declared.Fields.{Fields}
 use Rattle.proof_term.specs.declared.Fields.the-variants.{Held, Refused}
-use Rattle.proof_term.specs.Kinds.{fieldAs, fieldsAs}
+use Rattle.proof_term.specs.Kinds.{fieldAs, fieldsAs, Settles}
 use Rattle.proof_term.proofs.Sums.{add-two, add-three, add-four, add-five}
 
 -- the field that the match found, and the number that was read
@@ -30,11 +30,11 @@ in-a-row true true true true true = refl
 
 module _ (names : List (List ℕ)) (count : ℕ) (t : List ℕ) (i : ℕ) where
   -- a kind that is refused breaks the layout
-  pub kind-refused : {r : Fields} {k : ℕ} → fieldsAs r ≡ fieldsOf k → k ≡ getD t (i * nodeWidth) 0 → r ≡ Refused →
+  pub kind-refused : {r : Fields} {k : ℕ} → Settles r k → k ≡ getD t (i * nodeWidth) 0 → r ≡ Refused →
       false ≡ lawfulNode names count t i
   unfolding lawfulNode
   kind-refused e h f =
-      let q : fieldsOf (getD t (i * nodeWidth) 0) ≡ none = ap fieldsOf (sym h) ∙ sym e ∙ ap fieldsAs f in
+      let q : fieldsOf (getD t (i * nodeWidth) 0) ≡ none = ap fieldsOf (sym h) ∙ sym (e .layout) ∙ ap fieldsAs f in
       rw (q, lawfulNode)
 
   -- the five fields, each number at its own sum
@@ -49,8 +49,8 @@ module _ (names : List (List ℕ)) (count : ℕ) (t : List ℕ) (i : ℕ) where
   fields-judged a b c d e = rw (in-a-row, add-one, add-two, add-three, add-four, add-five)
 
   -- a kind that is not refused keeps the layout where its five fields do
-  pub node-judged : {r : Fields} {k : ℕ} {a b c d e : Field} {x₁ x₂ x₃ x₄ x₅ : Bool} →
-      fieldsAs r ≡ fieldsOf k → k ≡ getD t (i * nodeWidth) 0 → r ≡ Held a b c d e →
+  pub node-judged : {r : Fields} {k start end : ℕ} {a b c d e : Field} {x₁ x₂ x₃ x₄ x₅ : Bool} →
+      Settles r k → k ≡ getD t (i * nodeWidth) 0 → r ≡ Held start end a b c d e →
       x₁ ≡ lawfulField names count i (fieldAs a) (getD t (i * nodeWidth + 1) 0) →
       x₂ ≡ lawfulField names count i (fieldAs b) (getD t (i * nodeWidth + 2) 0) →
       x₃ ≡ lawfulField names count i (fieldAs c) (getD t (i * nodeWidth + 3) 0) →
@@ -58,7 +58,7 @@ module _ (names : List (List ℕ)) (count : ℕ) (t : List ℕ) (i : ℕ) where
       x₅ ≡ lawfulField names count i (fieldAs e) (getD t (i * nodeWidth + 5) 0) →
       ((((x₁ && x₂) && x₃) && x₄) && x₅) ≡ lawfulNode names count t i
   unfolding lawfulNode
-  node-judged {r} {k} {a} {b} {c} {d} {e} h l f h₁ h₂ h₃ h₄ h₅ =
+  node-judged {r} {k} {start} {end} {a} {b} {c} {d} {e} h l f h₁ h₂ h₃ h₄ h₅ =
       let q : fieldsOf (getD t (i * nodeWidth) 0) ≡ some (fieldAs a ∷ fieldAs b ∷ fieldAs c ∷ fieldAs d ∷ fieldAs e ∷ []) =
-      ap fieldsOf (sym l) ∙ sym h ∙ ap fieldsAs f in
+      ap fieldsOf (sym l) ∙ sym (h .layout) ∙ ap fieldsAs f in
       rw (h₁, h₂, h₃, h₄, h₅) (rw (q, lawfulNode) (fields-judged (fieldAs a) (fieldAs b) (fieldAs c) (fieldAs d) (fieldAs e)))

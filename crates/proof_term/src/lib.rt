@@ -1,11 +1,11 @@
 // Term nodes in numbers: the kinds in the order of `ProofTerm`, the one writer of a node, and the layout test of nodes.
 ghost use mathlib.Core.Path.{_≡_};
 ghost use mathlib.Core.List.{[], _∷_};
-ghost use Prim.Native.Nat.{_*_, _≤_, _<_};
+ghost use Prim.Native.Nat.{_*_, _<_};
 ghost use lib.ListN.{length, getD, set, take};
 ghost use Rattle.theory.specs.NameText.{namesIn, padded};
-ghost use Rattle.theory.specs.Layout.{nodeWidth, fieldsOf, lawfulName, lawfulField, lawfulNode};
-ghost use Rattle.proof_term.specs.Kinds.{fieldAs, fieldsAs};
+ghost use Rattle.theory.specs.Layout.{nodeWidth, lawfulName, lawfulField, lawfulNode};
+ghost use Rattle.proof_term.specs.Kinds.{fieldAs, Settles};
 ghost use Rattle.proof_term.specs.Put.{low, putNode};
 use Field::Child;
 use Field::Formula;
@@ -40,6 +40,9 @@ pub const ASCRIPTION: usize = 11;
 
 pub const UNIT: usize = 12;
 
+// The keywords of the house text one behind another, each with its bracket; a Unit's is the first bracket alone.
+pub const KEYWORDS: [u8; 42] = *b"(pair(fst(snd(fn(app(inl(inr(case(abort(as";
+
 // What a field of a node holds.
 pub enum Field {
     // a name's number
@@ -52,31 +55,32 @@ pub enum Field {
     Unused,
 }
 
-// What the five fields of a kind hold, in their order; or that there is no such kind.
+// How a kind is printed and what its five fields hold; or that there is no such kind.
 pub enum Fields {
-    // the five, first to last
-    Held(Field, Field, Field, Field, Field),
+    // where the keyword starts and ends in `KEYWORDS`, and the five, first to last. An Ident has no keyword: its name stands alone
+    Held(usize, usize, Field, Field, Field, Field, Field),
     // there is no such kind
     Refused,
 }
 
-// The one decision over kind numbers, in the order of `ProofTerm`: LetIn (6), Sorry (13) and what lies above are refused.
+// The one decision over kind numbers, in the order of `ProofTerm`: LetIn (6), Sorry (13) and what lies above are refused. The layout test
+// and the writer of the house text go by it.
 pub fn fields_of(kind: usize) -> Fields
-    ensures { λ r. ⌜ fieldsAs r ≡ fieldsOf kind ⌝ }
+    ensures { λ r. ⌜ Settles r kind ⌝ }
 {
     match kind {
-        IDENT => Fields::Held(Name, Unused, Unused, Unused, Unused),
-        PAIR => Fields::Held(Child, Child, Unused, Unused, Unused),
-        PROJECT_FST => Fields::Held(Child, Unused, Unused, Unused, Unused),
-        PROJECT_SND => Fields::Held(Child, Unused, Unused, Unused, Unused),
-        FUNCTION => Fields::Held(Name, Child, Unused, Unused, Unused),
-        APPLICATION => Fields::Held(Child, Child, Unused, Unused, Unused),
-        OR_LEFT => Fields::Held(Child, Unused, Unused, Unused, Unused),
-        OR_RIGHT => Fields::Held(Child, Unused, Unused, Unused, Unused),
-        CASE => Fields::Held(Child, Name, Child, Name, Child),
-        ABORT => Fields::Held(Child, Unused, Unused, Unused, Unused),
-        ASCRIPTION => Fields::Held(Child, Formula, Unused, Unused, Unused),
-        UNIT => Fields::Held(Unused, Unused, Unused, Unused, Unused),
+        IDENT => Fields::Held(0, 0, Name, Unused, Unused, Unused, Unused),
+        PAIR => Fields::Held(0, 5, Child, Child, Unused, Unused, Unused),
+        PROJECT_FST => Fields::Held(5, 9, Child, Unused, Unused, Unused, Unused),
+        PROJECT_SND => Fields::Held(9, 13, Child, Unused, Unused, Unused, Unused),
+        FUNCTION => Fields::Held(13, 16, Name, Child, Unused, Unused, Unused),
+        APPLICATION => Fields::Held(16, 20, Child, Child, Unused, Unused, Unused),
+        OR_LEFT => Fields::Held(20, 24, Child, Unused, Unused, Unused, Unused),
+        OR_RIGHT => Fields::Held(24, 28, Child, Unused, Unused, Unused, Unused),
+        CASE => Fields::Held(28, 33, Child, Name, Child, Name, Child),
+        ABORT => Fields::Held(33, 39, Child, Unused, Unused, Unused, Unused),
+        ASCRIPTION => Fields::Held(39, 42, Child, Formula, Unused, Unused, Unused),
+        UNIT => Fields::Held(0, 1, Unused, Unused, Unused, Unused, Unused),
         _ => Fields::Refused,
     }
 }
@@ -196,7 +200,7 @@ pub fn lawful_node(terms: &[u16], i: usize, count: usize, names: usize, text: &[
     ensures { λ r. ⌜ r ≡ lawfulNode (namesIn (now (text .entry))) count (now (terms .entry)) i ⌝ }
 {
     let at = i * WIDTH;
-    let Fields::Held(a, b, c, d, e) = fields_of(number(terms, at)) else {
+    let Fields::Held(_, _, a, b, c, d, e) = fields_of(number(terms, at)) else {
         return false;
     };
     let first = lawful_field(a, terms, at + 1, i, count, names, text);

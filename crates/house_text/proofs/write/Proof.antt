@@ -13,7 +13,8 @@ use Rattle.house_text.proofs.write.Tie as tie
 abbrev lent : tie.Start → Draft
 lent c =
     let args = c .args in
-    draft (now (args .words)) (args .count) (args .assumptions) (now (args .names)) (now (args .terms)) (args .nodes) (args .root) (now (args .buf))
+    draft (now (args .words)) (args .count) (args .assumptions) (now (args .names)) (now (args .terms)) (args .nodes) (args .root)
+    (now (args .buf))
 
 write-text-requires : tie.Need-write-text-requires
 write-text-requires c κs = search needs

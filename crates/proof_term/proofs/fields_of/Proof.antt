@@ -1,57 +1,60 @@
 -- `proof_term::fields_of` meets its contract. Assumes nothing.
-use mathlib.Core.Path.{sym, ap}
+use mathlib.Core.Path.{refl}
+use native.Mathlib.Omega.{arith}
 use Rattle.theory.specs.Layout.{fieldsOf}
-use Rattle.proof_term.proofs.KindLaws.{no-kind}
+use Rattle.theory.specs.Text.{bytes}
+use Rattle.proof_term.specs.Kinds.{keywords, keyword}
+use Rattle.proof_term.proofs.KindLaws.{settled, no-kind}
 use Rattle.proof_term.proofs.fields_of.Statement.{statement}
 use Rattle.proof_term.proofs.fields_of.Tie as tie
 
 returns : tie.Need-returns
-unfolding fieldsOf
-returns c = ap fieldsOf (sym (c .match .keys1))
+unfolding fieldsOf keyword keywords bytes
+returns c = settled (c .match .keys1) refl refl (omega arith)
 
 returns-2 : tie.Need-returns-2
-unfolding fieldsOf
-returns-2 c = ap fieldsOf (sym (c .match .keys2))
+unfolding fieldsOf keyword keywords bytes
+returns-2 c = settled (c .match .keys2) refl refl (omega arith)
 
 returns-3 : tie.Need-returns-3
-unfolding fieldsOf
-returns-3 c = ap fieldsOf (sym (c .match .keys3))
+unfolding fieldsOf keyword keywords bytes
+returns-3 c = settled (c .match .keys3) refl refl (omega arith)
 
 returns-4 : tie.Need-returns-4
-unfolding fieldsOf
-returns-4 c = ap fieldsOf (sym (c .match .keys4))
+unfolding fieldsOf keyword keywords bytes
+returns-4 c = settled (c .match .keys4) refl refl (omega arith)
 
 returns-5 : tie.Need-returns-5
-unfolding fieldsOf
-returns-5 c = ap fieldsOf (sym (c .match .keys5))
+unfolding fieldsOf keyword keywords bytes
+returns-5 c = settled (c .match .keys5) refl refl (omega arith)
 
 returns-6 : tie.Need-returns-6
-unfolding fieldsOf
-returns-6 c = ap fieldsOf (sym (c .match .keys6))
+unfolding fieldsOf keyword keywords bytes
+returns-6 c = settled (c .match .keys6) refl refl (omega arith)
 
 returns-7 : tie.Need-returns-7
-unfolding fieldsOf
-returns-7 c = ap fieldsOf (sym (c .match .keys7))
+unfolding fieldsOf keyword keywords bytes
+returns-7 c = settled (c .match .keys7) refl refl (omega arith)
 
 returns-8 : tie.Need-returns-8
-unfolding fieldsOf
-returns-8 c = ap fieldsOf (sym (c .match .keys8))
+unfolding fieldsOf keyword keywords bytes
+returns-8 c = settled (c .match .keys8) refl refl (omega arith)
 
 returns-9 : tie.Need-returns-9
-unfolding fieldsOf
-returns-9 c = ap fieldsOf (sym (c .match .keys9))
+unfolding fieldsOf keyword keywords bytes
+returns-9 c = settled (c .match .keys9) refl refl (omega arith)
 
 returns-10 : tie.Need-returns-10
-unfolding fieldsOf
-returns-10 c = ap fieldsOf (sym (c .match .keys10))
+unfolding fieldsOf keyword keywords bytes
+returns-10 c = settled (c .match .keys10) refl refl (omega arith)
 
 returns-11 : tie.Need-returns-11
-unfolding fieldsOf
-returns-11 c = ap fieldsOf (sym (c .match .keys11))
+unfolding fieldsOf keyword keywords bytes
+returns-11 c = settled (c .match .keys11) refl refl (omega arith)
 
 returns-12 : tie.Need-returns-12
-unfolding fieldsOf
-returns-12 c = ap fieldsOf (sym (c .match .keys12))
+unfolding fieldsOf keyword keywords bytes
+returns-12 c = settled (c .match .keys12) refl refl (omega arith)
 
 returns-13 : tie.Need-returns-13
 returns-13 c = no-kind _ (c .match .rest)
