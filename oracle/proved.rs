@@ -79,12 +79,12 @@ fn status(file: &[u8]) -> Vec<u8> {
     let zeros = words[count..].iter().all(|word| *word == 0)
         && terms.iter().all(|number| *number == 0)
         && work.iter().all(|left| *left == record(0));
-    assert!(zeros || (17..=21).contains(&number));
+    assert!(zeros || (1..=5).contains(&number));
     match number {
-        0 => b"solvable\n".to_vec(),
-        1 => b"unsolvable\n".to_vec(),
-        2 => b"unknown\n".to_vec(),
-        _ => format!("refused {}\n", number - 16).into_bytes(),
+        16 => b"solvable\n".to_vec(),
+        17 => b"unsolvable\n".to_vec(),
+        18 => b"unknown\n".to_vec(),
+        _ => format!("refused {number}\n").into_bytes(),
     }
 }
 

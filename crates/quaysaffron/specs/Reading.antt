@@ -1,17 +1,17 @@
--- Where the bytes that the program has read stand in its buffer. Assumes nothing.
-use Prim.Native.Nat.{ℕ, _+_, _≤_}
+-- What reading leaves in the program's buffer. Assumes nothing.
+use Prim.Native.Nat.{ℕ, _≤_}
+use mathlib.Core.Path.{_≡_}
 use mathlib.Core.List.{List}
-use lib.ListN.{length}
-use Rattle.io.specs.Counts.{Counts}
+use lib.ListN.{length, take}
 use Rattle.quaysaffron.specs.declared.Input.{Input}
 use Rattle.quaysaffron.specs.declared.Input.the-variants.{Bytes, Failed}
 
--- behind those that were read before, and inside the buffer
+-- the bytes of a reading: those that were there before, others behind them, and all inside the buffer
 abbrev pub Behind : ℕ → Input → List ℕ → Type 0
-Behind done (Bytes n) buf = done + n ≤ length buf
+Behind done (Bytes n) buf = (done ≤ n) × (n ≤ length buf)
 Behind done Failed buf = Unit {0}
 
--- all of them are a front part of the buffer
-abbrev pub Front : Input → List ℕ → Type 0
-Front (Bytes n) buf = Counts n buf
-Front Failed buf = Unit {0}
+-- what a call leaves of a buffer with `done` bytes: these as they were, and behind them what it has read
+pub record Grown (done : ℕ) (before : List ℕ) (r : Input) (after : List ℕ) : Type 0 where
+  pub kept : take done after ≡ take done before
+  pub behind : Behind done r after

@@ -1,45 +1,46 @@
 // Prints what the prover says of a house file: the file that the first argument names, or standard input where there is none.
 ghost use Prim.Native.Nat.{_≤_};
 ghost use mathlib.Core.Path.{_≡_};
-ghost use lib.ListN.{length, take};
+ghost use lib.ListN.{length};
 ghost use Rattle.theory.specs.File.{printed};
-ghost use Rattle.quaysaffron.specs.Reading.{Behind, Front};
+ghost use Rattle.quaysaffron.specs.Reading.{Grown};
 use libc::STDIN_FILENO;
 use libc::STDOUT_FILENO;
 
-// What reading came to: so many bytes, or a read that failed.
+// What reading came to: so many bytes at the buffer's front, or a read that failed.
 enum Input {
     Bytes(usize),
     Failed,
 }
 
-// Reads once, into the buffer from `done` on, and leaves what was read before; 0 bytes are the end of the input.
+// Reads once, behind the `done` bytes that were read before, and leaves these; no byte more is the end of the input.
 fn read_more(fd: i32, buf: &mut [u8], done: usize) -> Input
     requires { ⌜ done ≤ length (now buf) ⌝ }
-    ensures behind { λ r. ⌜ Behind done r (now (buf .exit)) ⌝ }
-    ensures kept { λ _. ⌜ take done (now (buf .exit)) ≡ take done (now (buf .entry)) ⌝ }
+    ensures { λ r. ⌜ Grown done (now (buf .entry)) r (now (buf .exit)) ⌝ }
 {
     let got = libc::read(fd, &mut buf[done..]);
     if got < 0 {
         return Input::Failed;
     }
-    Input::Bytes(io::count(got, &buf[done..]))
+    Input::Bytes(done + io::count(got, &buf[done..]))
 }
 
-// Reads until the input ends or the buffer is full: a pipe hands its bytes over in pieces.
-fn read_all(fd: i32, buf: &mut [u8]) -> Input
-    ensures { λ r. ⌜ Front r (now (buf .exit)) ⌝ }
+// Reads until the input ends or the buffer is full: a pipe hands its bytes over in pieces. Which bytes these are, the contract of a read
+// does not say. So this one is stated for a buffer with `start` bytes in it, which every turn of the loop must leave.
+fn read_rest(fd: i32, buf: &mut [u8], start: usize) -> Input
+    requires { ⌜ start ≤ length (now buf) ⌝ }
+    ensures { λ r. ⌜ Grown start (now (buf .entry)) r (now (buf .exit)) ⌝ }
 {
-    let mut done = 0;
+    let mut done = start;
     while done < buf.len() {
         let piece = read_more(fd, buf, done);
-        let Input::Bytes(more) = piece else {
+        let Input::Bytes(all) = piece else {
             return Input::Failed;
         };
-        if more == 0 {
-            return Input::Bytes(done);
+        if all == done {
+            return piece;
         }
-        done += more;
+        done = all;
     }
     Input::Bytes(done)
 }
@@ -53,11 +54,8 @@ fn write_lines(lines: &[u8], file: &[u8])
     }
 }
 
-// The most that the lines of an answer take.
-const MOST_PRINTED: usize = 32835;
-
 fn print(file: &[u8]) {
-    let mut out = [0u8; MOST_PRINTED];
+    let mut out = [0u8; house_file::OUTPUT_BYTES];
     let n = house_file::output(file, &mut out);
     write_lines(&out[..n], file);
 }
@@ -67,7 +65,7 @@ const MOST_READ: usize = 32769;
 
 fn answer(fd: i32, name: &[u8]) {
     let mut file = [0u8; MOST_READ];
-    let input = read_all(fd, &mut file);
+    let input = read_rest(fd, &mut file, 0);
     match input {
         Input::Bytes(n) => print(&file[..n]),
         Input::Failed => os::fail(name),

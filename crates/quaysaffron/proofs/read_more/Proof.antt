@@ -2,6 +2,7 @@
 use borrow.Author.Needs.{needs}
 use borrow.Rule.Slice.PartMut.{take-put}
 use Prim.Native.Nat.{_-_}
+use native.Mathlib.Omega.{arith}
 use lib.ListN.{length}
 use denote.Ref.{now}
 use Rattle.quaysaffron.proofs.read_more.Statement.{statement}
@@ -28,7 +29,7 @@ returns c =
     let start = at-read .before .before .before in
     let args = start .args in
     let buf = now (args .buf) in
-    (tt, take-put (args .done) (length buf - args .done) buf (at-read .read .last .1 .0) (start .pre))
+    record { kept = take-put (args .done) (length buf - args .done) buf (at-read .read .last .1 .0) (start .pre); behind = tt }
 
 sub-count : tie.Need-sub-count
 sub-count c = search needs
@@ -42,6 +43,9 @@ part-count-end c = search needs
 count-requires : tie.Need-count-requires
 count-requires c κs = search needs
 
+add-t14 : tie.Need-add-t14
+add-t14 c = search needs
+
 same-length-2 : tie.Need-same-length-2
 same-length-2 c = search needs
 
@@ -51,9 +55,25 @@ returns-2 c =
     let start = at-read .before .before .before in
     let args = start .args in
     let buf = now (args .buf) in
-    (search needs, take-put (args .done) (length buf - args .done) buf (at-read .read .last .1 .0) (start .pre))
+    record {
+      kept = take-put (args .done) (length buf - args .done) buf (at-read .read .last .1 .0) (start .pre);
+      behind = search needs;
+    }
 
 pub read-more-spec : {M : Type 1} → statement M
 read-more-spec =
-    tie.close (tie.spec sub-read part-read-start part-read-end read-requires same-length returns sub-count part-count-start
-    part-count-end count-requires same-length-2 returns-2)
+    tie.close
+    (tie.spec
+    sub-read
+    part-read-start
+    part-read-end
+    read-requires
+    same-length
+    returns
+    sub-count
+    part-count-start
+    part-count-end
+    count-requires
+    add-t14
+    same-length-2
+    returns-2)
