@@ -7,25 +7,31 @@ use crate::book;
 use test_rows::at_most;
 use test_rows::field;
 
-// What the writer gave: its number and place, and how many bytes.
+// What the spare buffer holds before the writer is asked.
+const SPARE: u8 = 90;
+
+// What the writer gave: its number and place, how many bytes, and whether its two forms gave the same.
 pub struct Written {
     pub asked: bool,
     pub number: usize,
     pub place: usize,
     pub length: usize,
+    pub alike: bool,
 }
 
+// What a writer gives that is not asked.
 pub fn unwritten() -> Written {
     Written {
         asked: false,
         number: 0,
         place: 0,
         length: 0,
+        alike: true,
     }
 }
 
-// Asks the writer.
-pub fn write(
+// Asks the writer for a length, with the text at the front of the buffer.
+fn fill(
     s: &[u8],
     book: usize,
     f: &[u32],
@@ -54,11 +60,99 @@ pub fn write(
         number,
         place,
         length,
+        alike: true,
     }
 }
 
-// Behind the text the buffer is zero, and so is all of it after 12; a writer that refused or was not asked left it as it was.
+// Both forms gave the same number, place and length, and the spare buffer holds what it must.
+fn agree(filled: Written, handed: Written, spare: &[u8]) -> bool {
+    if filled.number != handed.number {
+        return false;
+    }
+    if filled.place != handed.place {
+        return false;
+    }
+    if filled.length != handed.length {
+        return false;
+    }
+    kept(spare, handed, SPARE)
+}
+
+// Asks the writer for the text as a part of a buffer, and holds it against what `fill` gave, with the text at its front.
+fn hand(
+    s: &[u8],
+    book: usize,
+    f: &[u32],
+    count: usize,
+    t: &[u16],
+    nodes: usize,
+    root: usize,
+    spare: &mut [u8],
+    filled: Written,
+    text: &[u8],
+) -> bool {
+    let mut number = 0;
+    let mut place = 0;
+    let part = house_text::write(
+        f,
+        count,
+        book::assumptions(s, book),
+        book::names(s, book),
+        t,
+        nodes,
+        root,
+        spare,
+        &mut number,
+        &mut place,
+    );
+    let length = part.len();
+    let alike = test_rows::begins_with(text, part);
+    let handed = Written {
+        asked: true,
+        number,
+        place,
+        length,
+        alike,
+    };
+    agree(filled, handed, spare)
+}
+
+// Asks the writer in both of its forms, each over a buffer of its own and as long.
+pub fn write(
+    s: &[u8],
+    book: usize,
+    f: &[u32],
+    count: usize,
+    t: &[u16],
+    nodes: usize,
+    root: usize,
+    text: &mut [u8],
+) -> Written {
+    let mut written = fill(s, book, f, count, t, nodes, root, text);
+    let mut spare = [SPARE; crate::MOST_TEXT];
+    let room = at_most(text.len(), crate::MOST_TEXT);
+    let alike = hand(
+        s,
+        book,
+        f,
+        count,
+        t,
+        nodes,
+        root,
+        &mut spare[..room],
+        written,
+        text,
+    );
+    written.alike = alike;
+    written
+}
+
+// Behind the text the buffer is zero, and so is all of it after 12; a writer that refused or was not asked left it as it was. Where the two
+// forms differ, nothing is as it must be.
 pub fn kept(text: &[u8], written: Written, junk: u8) -> bool {
+    if !written.alike {
+        return false;
+    }
     if written.asked {
         if written.number == 0 {
             return test_rows::bytes_are(text, written.length, 0);
