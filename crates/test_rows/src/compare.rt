@@ -48,17 +48,17 @@ pub fn bytes_are(b: &[u8], from: usize, x: u8) -> bool
     true
 }
 
-// The text stands at the front of b.
-pub fn begins_with(b: &[u8], text: &[u8]) -> bool
-    ensures { λ r. ⌜ (r ≡ true → (length (now (text .entry)) ≤ length (now (b .entry))) ×
-        Alike (now (b .entry)) (now (text .entry)) (length (now (text .entry)))) ⌝ }
+// The text stands at the front of the buffer.
+pub fn begins_with(buffer: &[u8], text: &[u8]) -> bool
+    ensures { λ r. ⌜ (r ≡ true → (length (now (text .entry)) ≤ length (now (buffer .entry))) ×
+        Alike (now (buffer .entry)) (now (text .entry)) (length (now (text .entry)))) ⌝ }
 {
-    if b.len() < text.len() {
+    if buffer.len() < text.len() {
         return false;
     }
     let mut i = 0;
     while i < text.len() {
-        if b[i] != text[i] {
+        if buffer[i] != text[i] {
             return false;
         }
         i += 1;

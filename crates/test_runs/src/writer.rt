@@ -32,11 +32,11 @@ pub fn unwritten() -> Written {
 
 // Asks the writer for a length, with the text at the front of the buffer.
 fn fill(
-    s: &[u8],
+    list: &[u8],
     book: usize,
-    f: &[u32],
+    words: &[u32],
     count: usize,
-    t: &[u16],
+    terms: &[u16],
     nodes: usize,
     root: usize,
     text: &mut [u8],
@@ -44,11 +44,11 @@ fn fill(
     let mut number = 0;
     let mut place = 0;
     let length = house_text::write_text(
-        f,
+        words,
         count,
-        book::assumptions(s, book),
-        book::names(s, book),
-        t,
+        book::assumptions(list, book),
+        book::names(list, book),
+        terms,
         nodes,
         root,
         text,
@@ -80,11 +80,11 @@ fn agree(filled: Written, handed: Written, spare: &[u8]) -> bool {
 
 // Asks the writer for the text as a part of a buffer, and holds it against what `fill` gave, with the text at its front.
 fn hand(
-    s: &[u8],
+    list: &[u8],
     book: usize,
-    f: &[u32],
+    words: &[u32],
     count: usize,
-    t: &[u16],
+    terms: &[u16],
     nodes: usize,
     root: usize,
     spare: &mut [u8],
@@ -94,11 +94,11 @@ fn hand(
     let mut number = 0;
     let mut place = 0;
     let part = house_text::write(
-        f,
+        words,
         count,
-        book::assumptions(s, book),
-        book::names(s, book),
-        t,
+        book::assumptions(list, book),
+        book::names(list, book),
+        terms,
         nodes,
         root,
         spare,
@@ -119,24 +119,24 @@ fn hand(
 
 // Asks the writer in both of its forms, each over a buffer of its own and as long.
 pub fn write(
-    s: &[u8],
+    list: &[u8],
     book: usize,
-    f: &[u32],
+    words: &[u32],
     count: usize,
-    t: &[u16],
+    terms: &[u16],
     nodes: usize,
     root: usize,
     text: &mut [u8],
 ) -> Written {
-    let mut written = fill(s, book, f, count, t, nodes, root, text);
+    let mut written = fill(list, book, words, count, terms, nodes, root, text);
     let mut spare = [SPARE; crate::MOST_TEXT];
     let room = at_most(text.len(), crate::MOST_TEXT);
     let alike = hand(
-        s,
+        list,
         book,
-        f,
+        words,
         count,
-        t,
+        terms,
         nodes,
         root,
         &mut spare[..room],
@@ -189,39 +189,71 @@ pub fn checksum(text: &[u8], n: usize) -> usize
     high * 65536 + low
 }
 
-fn answer(s: &[u8], row: usize, book: usize, f: &[u32], t: &[u16], text: &mut [u8]) -> Answer {
-    let count = book::given(s, book) + field(s, row, crate::SURPLUS);
-    let nodes = field(s, row, crate::NODES);
-    let root = field(s, row, crate::GOAL);
-    let written = write(s, book, f, count, t, nodes, root, text);
+// Writes the term of a row, and tells what came back.
+fn answer(
+    list: &[u8],
+    row: usize,
+    book: usize,
+    words: &[u32],
+    terms: &[u16],
+    text: &mut [u8],
+) -> Answer {
+    let count = book::given(list, book) + field(list, row, crate::SURPLUS);
+    let nodes = field(list, row, crate::NODES);
+    let root = field(list, row, crate::GOAL);
+    let written = write(list, book, words, count, terms, nodes, root, text);
     Answer {
         call: [written.number, written.place, 0, 0, 0, 0, 0],
         writer: written.number,
         length: written.length,
         checksum: checksum(text, written.length),
-        kept: kept(text, written, crate::junk(s, row)),
+        kept: kept(text, written, crate::junk(list, row)),
     }
 }
 
 // Reads the words and the term of a book.
-fn read(s: &[u8], book: usize, f: &mut [u32], t: &mut [u16]) {
-    test_rows::read_words(s, book::words_at(s, book), book::given(s, book), f);
-    test_rows::read_halves(s, book::numbers_at(s, book), field(s, book, 3), t);
+fn read(list: &[u8], book: usize, words: &mut [u32], terms: &mut [u16]) {
+    test_rows::read_words(
+        list,
+        book::words_at(list, book),
+        book::given(list, book),
+        words,
+    );
+    test_rows::read_halves(
+        list,
+        book::numbers_at(list, book),
+        field(list, book, 3),
+        terms,
+    );
 }
 
 // Lends as much of each slice as the row says.
-fn lend(s: &[u8], row: usize, book: usize, f: &[u32], t: &[u16], text: &mut [u8]) -> Answer {
-    let words = at_most(field(s, row, crate::WORDS), f.len());
-    let numbers = at_most(field(s, row, crate::NUMBERS), t.len());
-    let room = at_most(field(s, row, crate::TEXT), text.len());
-    answer(s, row, book, &f[..words], &t[..numbers], &mut text[..room])
+fn lend(
+    list: &[u8],
+    row: usize,
+    book: usize,
+    words: &[u32],
+    terms: &[u16],
+    text: &mut [u8],
+) -> Answer {
+    let given = at_most(field(list, row, crate::WORDS), words.len());
+    let numbers = at_most(field(list, row, crate::NUMBERS), terms.len());
+    let room = at_most(field(list, row, crate::TEXT), text.len());
+    answer(
+        list,
+        row,
+        book,
+        &words[..given],
+        &terms[..numbers],
+        &mut text[..room],
+    )
 }
 
 // Writes a given term, over slices full of junk.
-pub fn run(s: &[u8], row: usize, book: usize, text: &mut [u8]) -> Answer {
-    let junk = crate::junk(s, row);
-    let mut f = [junk as u32; MOST_WORDS];
-    let mut t = [junk as u16; MOST_NUMBERS];
-    read(s, book, &mut f, &mut t);
-    lend(s, row, book, &f, &t, text)
+pub fn run(list: &[u8], row: usize, book: usize, text: &mut [u8]) -> Answer {
+    let junk = crate::junk(list, row);
+    let mut words = [junk as u32; MOST_WORDS];
+    let mut terms = [junk as u16; MOST_NUMBERS];
+    read(list, book, &mut words, &mut terms);
+    lend(list, row, book, &words, &terms, text)
 }

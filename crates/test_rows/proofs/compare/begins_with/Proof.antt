@@ -10,10 +10,10 @@ use Rattle.test_rows.proofs.compare.begins_with.Statement.{statement}
 use Rattle.test_rows.proofs.compare.begins_with.Tie as tie
 
 abbrev Inv-loop : tie.InvT-loop
-Inv-loop b text i₀ i = (i ≤ length text) × Alike b text i
+Inv-loop buffer text i₀ i = (i ≤ length text) × Alike buffer text i
 
 abbrev μ-loop : tie.MeasureT-loop
-μ-loop b text i₀ i = length text - i
+μ-loop buffer text i₀ i = length text - i
 
 returns : tie.Need-returns Inv-loop μ-loop
 returns c e = absurd (false≢true e)
