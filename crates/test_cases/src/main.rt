@@ -4,77 +4,47 @@ mod show;
 
 use test_rows::field;
 
-const MOST_BYTES: usize = 262144;
+// The numbers of a row and the length of its name, which stands behind them.
+const NUMBERS: usize = test_runs::HEAD + 1;
 
-// Where a row's book stands, behind its numbers and its name.
+// Where a row's name ends.
 fn behind(list: &[u8], row: usize) -> usize {
-    let name = test_rows::skip(list, row, test_runs::HEAD + 1);
+    let name = test_rows::skip(list, row, NUMBERS);
     test_rows::after(list, name, field(list, row, test_runs::HEAD))
 }
 
-// The row's own book, or the one before.
-fn book_of(list: &[u8], row: usize, before: usize) -> usize {
-    if test_runs::again(list, row) {
-        return before;
-    }
-    behind(list, row)
-}
-
-fn next(list: &[u8], row: usize, book: usize) -> usize {
-    if test_runs::again(list, row) {
-        return behind(list, row);
-    }
-    test_runs::book_end(list, book)
-}
-
+// Runs a row, and prints its name and its answer.
 fn line(list: &[u8], row: usize, book: usize) {
-    let name = test_rows::skip(list, row, test_runs::HEAD + 1);
-    show::text(test_rows::part(list, name, field(list, row, test_runs::HEAD)));
-    show::text(b": ");
+    let name = test_rows::skip(list, row, NUMBERS);
+    test_lists::text(test_rows::part(list, name, field(list, row, test_runs::HEAD)));
+    test_lists::text(b": ");
     let mut text = [test_runs::junk(list, row); test_runs::MOST_TEXT];
     let answer = test_runs::run(list, row, book, &mut text);
     match test_runs::kind(list, row) {
-        1 => show::draft(answer, &text),
-        2 => show::status(answer),
-        3 => show::file(answer),
+        test_runs::TERM => show::draft(answer, &text),
+        test_runs::STATUS => show::status(answer),
+        test_runs::FILE => show::file(answer),
         _ => show::claim(answer, &text),
     }
 }
 
-// How the list was made, and how many rows it has; then the rows.
+// How the list was made, and a line for each row.
 fn lines(list: &[u8]) {
-    let told = test_rows::past(list, 0);
-    show::text(test_rows::part(list, told, test_rows::value(list, 0)));
-    show::text(b"\n");
-    let counted = test_rows::after(list, told, test_rows::value(list, 0));
-    all(
-        list,
-        test_rows::past(list, counted),
-        test_rows::value(list, counted),
-    );
-}
-
-fn all(list: &[u8], first: usize, count: usize) {
-    let mut row = first;
-    let mut book = 0;
+    test_lists::tell(list);
+    let count = test_lists::count(list);
+    let mut row = test_lists::start(list);
     let mut i = 0;
     while i < count {
-        book = book_of(list, row, book);
-        line(list, row, book);
-        row = next(list, row, book);
+        row = test_lists::step(list, row, behind(list, row.next));
+        line(list, row.at, row.book);
         i += 1;
     }
 }
 
 fn main() {
-    let path = b"list";
-    let file = os::open_read(path);
-    if file < 0 {
-        os::fail(path);
-        return;
+    let mut list = [0u8; test_lists::MOST_BYTES];
+    let n = test_lists::read(&mut list);
+    if 0 < n {
+        lines(&list[..n]);
     }
-    let mut list = [0u8; MOST_BYTES];
-    let n = io::read_full(file, &mut list);
-    libc::close(file);
-    lines(&list[..n]);
 }

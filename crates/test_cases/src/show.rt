@@ -1,14 +1,7 @@
 // What came back, as words.
+use test_lists::number;
+use test_lists::text;
 use test_runs::Answer;
-
-pub fn text(t: &[u8]) {
-    io::write_all(1, t);
-}
-
-fn number(name: &[u8], n: usize) {
-    text(name);
-    io::print_decimal(1, n as u64);
-}
 
 // The names of document 01's table.
 fn fault(n: usize) {
@@ -47,6 +40,7 @@ fn refused(call: [usize; 7]) {
 // A text of at most this many bytes is shown, a longer one told by its length and its checksum.
 const SHOWN: usize = 160;
 
+// The text, or the number of a writer that wrote none.
 fn written(answer: Answer, t: &[u8; test_runs::MOST_TEXT]) {
     let length = answer.length;
     if length == 0 {
@@ -60,6 +54,7 @@ fn written(answer: Answer, t: &[u8; test_runs::MOST_TEXT]) {
     number(b" bytes of text, Adler-32 ", answer.checksum)
 }
 
+// What a search used.
 fn numbers(call: [usize; 7]) {
     number(b", steps ", call[3]);
     number(b", names ", call[4]);
@@ -121,6 +116,7 @@ pub fn draft(answer: Answer, t: &[u8; test_runs::MOST_TEXT]) {
     kept(answer.kept, n)
 }
 
+// The name of a verdict.
 fn verdict(n: usize) {
     match n {
         1 => text(b"Solvable"),

@@ -1,55 +1,92 @@
 // Names: indices at every change of length, the test of the assumption text at each of its rules, the lookup, and the next free index.
-ghost use Prim.Native.Nat.{_≤_};
+ghost use Prim.Native.Nat.{_≤_, _<_};
 use crate::show::end;
 use crate::show::flag;
 use crate::show::number;
 use crate::show::text;
 use refusal::Place;
 
-fn written(part: &mut [u8]) {
+// What the buffers hold before a name is asked for, and how long they are at most.
+const JUNK: u8 = 165;
+
+const MOST_ROOM: usize = 160;
+
+// Prints a name that is handed as a part of a buffer, and returns how many bytes it has.
+fn written(part: &mut [u8]) -> usize {
     text(part);
+    part.len()
 }
 
-fn alone(i: usize) {
-    let mut buf = [0u8; 160];
+// The name as a part of the buffer, the number, and whether the buffer is zero behind the name.
+fn handed(i: usize, buf: &mut [u8]) {
     let mut refused = 0;
+    let part = identifier_generator::name_alone(i, buf, &mut refused);
+    let length = written(part);
+    number(refused);
+    flag(test_rows::bytes_are(buf, length, 0));
+}
+
+// The length, so many bytes of the buffer, the number, and whether the buffer is zero behind them.
+fn filled(i: usize, buf: &mut [u8]) {
+    let mut refused = 0;
+    let length = identifier_generator::write_alone(i, buf, &mut refused);
+    text(b",");
+    number(length);
+    text(b" ");
+    text(test_rows::part(buf, 0, length));
+    number(refused);
+    flag(test_rows::bytes_are(buf, length, 0));
+}
+
+// Index i asked for alone in both forms, each over so much room full of junk.
+fn forms(i: usize, room: usize)
+    requires { ⌜ room ≤ 160 ⌝ }
+{
+    let mut one = [JUNK; MOST_ROOM];
+    let mut other = [JUNK; MOST_ROOM];
+    handed(i, &mut one[..room]);
+    filled(i, &mut other[..room]);
+}
+
+// The line of index i in so much room.
+fn alone(i: usize, room: usize)
+    requires { ⌜ room ≤ 160 ⌝ }
+{
     text(b"name");
     number(i);
-    text(b" ");
-    let part = identifier_generator::name_alone(i, &mut buf, &mut refused);
-    written(part);
-    number(refused);
+    text(b" in");
+    number(room);
+    text(b": ");
+    forms(i, room);
     end();
 }
 
-// Room for the 157 letters of index 4081, and not for the 158 of the next one.
-fn alone_without_room(i: usize) {
-    let mut buf = [0u8; 157];
-    let mut refused = 0;
-    text(b"157 bytes for name");
-    number(i);
-    text(b" ");
-    let part = identifier_generator::name_alone(i, &mut buf, &mut refused);
-    written(part);
-    number(refused);
-    end();
+// Index i with one byte too few for its letters, with as many as it has, and with one more.
+fn around(i: usize, letters: usize)
+    requires { ⌜ (0 < letters) × (letters < 160) ⌝ }
+{
+    alone(i, letters - 1);
+    alone(i, letters);
+    alone(i, letters + 1);
 }
 
+// Indices about every change of length, the last index, and one more.
 fn indices() {
-    alone(0);
-    alone(25);
-    alone(26);
-    alone(51);
-    alone(52);
-    alone(78);
-    alone(363);
-    alone(364);
-    alone(4095);
-    alone(4096);
-    alone_without_room(4081);
-    alone_without_room(4082);
-    alone_without_room(4095);
-    alone_without_room(4096);
+    around(0, 1);
+    around(25, 1);
+    around(26, 2);
+    around(51, 2);
+    around(52, 3);
+    around(78, 4);
+    around(363, 14);
+    around(364, 15);
+    around(4081, 157);
+    around(4082, 158);
+    around(4095, 158);
+    around(4096, 158);
+    alone(4095, 160);
+    alone(4096, 0);
+    alone(4096, 160);
 }
 
 fn fault(t: &[u8], count: usize) {

@@ -1,10 +1,10 @@
 // The oracle's answers: every row of the list through the public calls, and every number compared.
 mod tally;
 
+use test_lists::number;
+use test_lists::text;
 use test_rows::field;
 use test_runs::Answer;
-
-const MOST_BYTES: usize = 524288;
 
 // The numbers behind a row's own: seven of the call, then the writer's number, the length and the checksum of the text.
 const CALL: usize = 7;
@@ -14,31 +14,9 @@ const ANSWER: usize = 10;
 // So many rows that differ are shown.
 const SHOWN: usize = 20;
 
-fn text(t: &[u8]) {
-    io::write_all(1, t);
-}
-
-fn number(n: usize) {
-    io::print_decimal(1, n as u64);
-}
-
+// Where a row's expected numbers end.
 fn behind(list: &[u8], row: usize) -> usize {
     test_rows::skip(list, row, test_runs::HEAD + ANSWER)
-}
-
-// The row's own book, or the one before.
-fn book_of(list: &[u8], row: usize, before: usize) -> usize {
-    if test_runs::again(list, row) {
-        return before;
-    }
-    behind(list, row)
-}
-
-fn next(list: &[u8], row: usize, book: usize) -> usize {
-    if test_runs::again(list, row) {
-        return behind(list, row);
-    }
-    test_runs::book_end(list, book)
 }
 
 // Number k of the expected answer.
@@ -46,6 +24,7 @@ fn expected(list: &[u8], row: usize, k: usize) -> usize {
     field(list, test_rows::skip(list, row, test_runs::HEAD), k)
 }
 
+// The seven numbers of the call are the expected ones.
 fn same_call(list: &[u8], row: usize, call: [usize; 7]) -> bool {
     let mut k = 0;
     while k < CALL {
@@ -57,6 +36,7 @@ fn same_call(list: &[u8], row: usize, call: [usize; 7]) -> bool {
     true
 }
 
+// Every number is the expected one, and each lent slice holds what it must.
 fn same(list: &[u8], row: usize, answer: Answer) -> bool {
     if answer.writer != expected(list, row, CALL) {
         return false;
@@ -74,16 +54,13 @@ fn same(list: &[u8], row: usize, answer: Answer) -> bool {
     false
 }
 
+// Prints a row that differs.
 fn show(i: usize, answer: Answer) {
     let call = answer.call;
-    text(b"different: row ");
-    number(i);
-    text(b" gave number ");
-    number(call[0]);
-    text(b", steps ");
-    number(call[3]);
-    text(b", text of ");
-    number(answer.length);
+    number(b"different: row ", i);
+    number(b" gave number ", call[0]);
+    number(b", steps ", call[3]);
+    number(b", text of ", answer.length);
     text(b"\n");
 }
 
@@ -103,44 +80,31 @@ fn runs_equal(list: &[u8], row: usize, book: usize, i: usize, tally: &mut [usize
     false
 }
 
-fn all(list: &[u8], first: usize, count: usize, tally: &mut [usize]) {
-    let mut row = first;
-    let mut book = 0;
+// Runs every row, and counts those that are as expected and those that are not.
+fn all(list: &[u8], tally: &mut [usize]) {
+    let count = test_lists::count(list);
+    let mut row = test_lists::start(list);
     let mut i = 0;
     while i < count {
-        book = book_of(list, row, book);
-        let equal = runs_equal(list, row, book, i, tally);
+        row = test_lists::step(list, row, behind(list, row.next));
+        let equal = runs_equal(list, row.at, row.book, i, tally);
         tally::judge(tally, equal);
-        row = next(list, row, book);
         i += 1;
     }
 }
 
-// How the list was made, and how many rows it has; then the rows.
+// How the list was made, and the counts of what its rows gave.
 fn replay(list: &[u8]) {
     let mut tally = [0usize; tally::KINDS];
-    let told = test_rows::past(list, 0);
-    text(test_rows::part(list, told, test_rows::value(list, 0)));
-    text(b"\n");
-    let counted = test_rows::after(list, told, test_rows::value(list, 0));
-    all(
-        list,
-        test_rows::past(list, counted),
-        test_rows::value(list, counted),
-        &mut tally,
-    );
+    test_lists::tell(list);
+    all(list, &mut tally);
     tally::show(&tally);
 }
 
 fn main() {
-    let path = b"list";
-    let file = os::open_read(path);
-    if file < 0 {
-        os::fail(path);
-        return;
+    let mut list = [0u8; test_lists::MOST_BYTES];
+    let n = test_lists::read(&mut list);
+    if 0 < n {
+        replay(&list[..n]);
     }
-    let mut list = [0u8; MOST_BYTES];
-    let n = io::read_full(file, &mut list);
-    libc::close(file);
-    replay(&list[..n]);
 }

@@ -1,5 +1,7 @@
 // Counts of what came back: the proofs, the table's numbers, the claims without a proof, the files that are not refused, and the rows that
 // are as expected or not.
+use test_lists::number;
+use test_lists::text;
 
 const PROVED: usize = 0;
 
@@ -15,6 +17,7 @@ pub const DIFFERENT: usize = 18;
 
 pub const KINDS: usize = 19;
 
+// How often a kind was counted.
 pub fn of(tally: &[usize], k: usize) -> usize {
     if k < tally.len() {
         return tally[k];
@@ -22,6 +25,7 @@ pub fn of(tally: &[usize], k: usize) -> usize {
     0
 }
 
+// Counts one more of a kind.
 pub fn count(tally: &mut [usize], k: usize) {
     if k < tally.len() {
         if tally[k] < 1000000 {
@@ -47,6 +51,7 @@ pub fn kind(file: bool, number: usize, writer: usize, terms: usize) -> usize {
     PROVED
 }
 
+// Counts a row that is as expected, or one that is not.
 pub fn judge(tally: &mut [usize], equal: bool) {
     if equal {
         return count(tally, EQUAL);
@@ -54,15 +59,11 @@ pub fn judge(tally: &mut [usize], equal: bool) {
     count(tally, DIFFERENT)
 }
 
-fn number(name: &[u8], n: usize) {
-    io::write_all(1, name);
-    io::print_decimal(1, n as u64);
-}
-
+// Prints how often one number of the table came back.
 fn line(tally: &[usize], n: usize) {
     number(b"", n);
     number(b": ", of(tally, n));
-    io::write_all(1, b"\n");
+    text(b"\n");
 }
 
 // How often each number of the table came back.
@@ -74,13 +75,14 @@ fn refusals(tally: &[usize]) {
     }
 }
 
+// Prints all counts.
 pub fn show(tally: &[usize]) {
     number(b"proved ", of(tally, PROVED));
     number(b", unprovable ", of(tally, UNPROVABLE));
     number(b", files answered ", of(tally, PRINTED));
-    io::write_all(1, b"\n");
+    text(b"\n");
     refusals(tally);
     number(b"", of(tally, EQUAL));
     number(b" equal, ", of(tally, DIFFERENT));
-    io::write_all(1, b" different\n");
+    text(b" different\n");
 }

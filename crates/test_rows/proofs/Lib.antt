@@ -1,3 +1,3 @@
--- The laws behind the proofs of `rows`. Assumes nothing.
+-- The laws behind the proofs of `test_rows`. Assumes nothing.
 pub mod Generated
 pub mod Laying

@@ -25,6 +25,10 @@ laid value wide s (suc n) i at l = laid value wide s n (i + 1) (onward s at wide
 abbrev pub Are : List ℕ → ℕ → ℕ → ℕ → Type 0
 Are l from to x = (k : ℕ) → k < to → from ≤ k → getD l k 0 ≡ x
 
+-- the numbers of l and m below `to` are the same
+abbrev pub Alike : List ℕ → List ℕ → ℕ → Type 0
+Alike l m to = (k : ℕ) → k < to → getD l k 0 ≡ getD m k 0
+
 -- the records of w below `to` hold x twice
 abbrev pub Twice : List Rec → ℕ → ℕ → Type 0
 Twice w to x = (k : ℕ) → k < to → (formulaAt w k ≡ x) × (termAt w k ≡ x)

@@ -1,2 +1,2 @@
--- The definitions that the contracts of `rows` cite. Assumes nothing.
+-- The definitions that the contracts of `test_rows` cite. Assumes nothing.
 pub mod Bytes

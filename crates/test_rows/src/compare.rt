@@ -1,8 +1,9 @@
-// What the lent slices hold after a call: the same everywhere from a place on, or the words of the list.
+// What the lent slices hold after a call: the same everywhere from a place on, a text at the front, or the words of the list.
 ghost use mathlib.Core.Path.{_≡_};
 ghost use mathlib.Core.Bool.{true};
+ghost use Prim.Native.Nat.{_≤_};
 ghost use lib.ListN.{length};
-ghost use Rattle.test_rows.specs.Bytes.{Are, Twice, wordAt, laid};
+ghost use Rattle.test_rows.specs.Bytes.{Are, Alike, Twice, wordAt, laid};
 use context::Record;
 
 // Every word from `from` on is x.
@@ -40,6 +41,24 @@ pub fn bytes_are(b: &[u8], from: usize, x: u8) -> bool
     let mut i = from;
     while i < b.len() {
         if b[i] != x {
+            return false;
+        }
+        i += 1;
+    }
+    true
+}
+
+// The text stands at the front of the buffer.
+pub fn begins_with(buffer: &[u8], text: &[u8]) -> bool
+    ensures { λ r. ⌜ (r ≡ true → (length (now (text .entry)) ≤ length (now (buffer .entry))) ×
+        Alike (now (buffer .entry)) (now (text .entry)) (length (now (text .entry)))) ⌝ }
+{
+    if buffer.len() < text.len() {
+        return false;
+    }
+    let mut i = 0;
+    while i < text.len() {
+        if buffer[i] != text[i] {
             return false;
         }
         i += 1;

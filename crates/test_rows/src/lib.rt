@@ -1,7 +1,8 @@
-// The list of rows that `cases` and `replay` run, as bytes: numbers of one, three or five bytes, and stretches of words, halves and bytes.
-// Past the end of the list every byte is 0, and no position lies past it, so that no caller owes a bound.
+// The list of rows that `test_cases` and `test_replay` run, as bytes: numbers of one, three or five bytes, and stretches of words, halves
+// and bytes. Past the end of the list every byte is 0, and no position lies past it, so that no caller owes a bound.
 mod compare;
 
+pub use compare::begins_with;
 pub use compare::bytes_are;
 pub use compare::halves_are;
 pub use compare::records_are;

@@ -7,30 +7,36 @@ use crate::book;
 use test_rows::at_most;
 use test_rows::field;
 
-// What the writer gave: its number and place, and how many bytes.
+// What the spare buffer holds before the writer is asked.
+const SPARE: u8 = 90;
+
+// What the writer gave: its number and place, how many bytes, and whether its two forms gave the same.
 pub struct Written {
     pub asked: bool,
     pub number: usize,
     pub place: usize,
     pub length: usize,
+    pub alike: bool,
 }
 
+// What a writer gives that is not asked.
 pub fn unwritten() -> Written {
     Written {
         asked: false,
         number: 0,
         place: 0,
         length: 0,
+        alike: true,
     }
 }
 
-// Asks the writer.
-pub fn write(
-    s: &[u8],
+// Asks the writer for a length, with the text at the front of the buffer.
+fn fill(
+    list: &[u8],
     book: usize,
-    f: &[u32],
+    words: &[u32],
     count: usize,
-    t: &[u16],
+    terms: &[u16],
     nodes: usize,
     root: usize,
     text: &mut [u8],
@@ -38,11 +44,11 @@ pub fn write(
     let mut number = 0;
     let mut place = 0;
     let length = house_text::write_text(
-        f,
+        words,
         count,
-        book::assumptions(s, book),
-        book::names(s, book),
-        t,
+        book::assumptions(list, book),
+        book::names(list, book),
+        terms,
         nodes,
         root,
         text,
@@ -54,11 +60,99 @@ pub fn write(
         number,
         place,
         length,
+        alike: true,
     }
 }
 
-// Behind the text the buffer is zero, and so is all of it after 12; a writer that refused or was not asked left it as it was.
+// Both forms gave the same number, place and length, and the spare buffer holds what it must.
+fn agree(filled: Written, handed: Written, spare: &[u8]) -> bool {
+    if filled.number != handed.number {
+        return false;
+    }
+    if filled.place != handed.place {
+        return false;
+    }
+    if filled.length != handed.length {
+        return false;
+    }
+    kept(spare, handed, SPARE)
+}
+
+// Asks the writer for the text as a part of a buffer, and holds it against what `fill` gave, with the text at its front.
+fn hand(
+    list: &[u8],
+    book: usize,
+    words: &[u32],
+    count: usize,
+    terms: &[u16],
+    nodes: usize,
+    root: usize,
+    spare: &mut [u8],
+    filled: Written,
+    text: &[u8],
+) -> bool {
+    let mut number = 0;
+    let mut place = 0;
+    let part = house_text::write(
+        words,
+        count,
+        book::assumptions(list, book),
+        book::names(list, book),
+        terms,
+        nodes,
+        root,
+        spare,
+        &mut number,
+        &mut place,
+    );
+    let length = part.len();
+    let alike = test_rows::begins_with(text, part);
+    let handed = Written {
+        asked: true,
+        number,
+        place,
+        length,
+        alike,
+    };
+    agree(filled, handed, spare)
+}
+
+// Asks the writer in both of its forms, each over a buffer of its own and as long.
+pub fn write(
+    list: &[u8],
+    book: usize,
+    words: &[u32],
+    count: usize,
+    terms: &[u16],
+    nodes: usize,
+    root: usize,
+    text: &mut [u8],
+) -> Written {
+    let mut written = fill(list, book, words, count, terms, nodes, root, text);
+    let mut spare = [SPARE; crate::MOST_TEXT];
+    let room = at_most(text.len(), crate::MOST_TEXT);
+    let alike = hand(
+        list,
+        book,
+        words,
+        count,
+        terms,
+        nodes,
+        root,
+        &mut spare[..room],
+        written,
+        text,
+    );
+    written.alike = alike;
+    written
+}
+
+// Behind the text the buffer is zero, and so is all of it after 12; a writer that refused or was not asked left it as it was. Where the two
+// forms differ, nothing is as it must be.
 pub fn kept(text: &[u8], written: Written, junk: u8) -> bool {
+    if !written.alike {
+        return false;
+    }
     if written.asked {
         if written.number == 0 {
             return test_rows::bytes_are(text, written.length, 0);
@@ -95,39 +189,71 @@ pub fn checksum(text: &[u8], n: usize) -> usize
     high * 65536 + low
 }
 
-fn answer(s: &[u8], row: usize, book: usize, f: &[u32], t: &[u16], text: &mut [u8]) -> Answer {
-    let count = book::given(s, book) + field(s, row, crate::SURPLUS);
-    let nodes = field(s, row, crate::NODES);
-    let root = field(s, row, crate::GOAL);
-    let written = write(s, book, f, count, t, nodes, root, text);
+// Writes the term of a row, and tells what came back.
+fn answer(
+    list: &[u8],
+    row: usize,
+    book: usize,
+    words: &[u32],
+    terms: &[u16],
+    text: &mut [u8],
+) -> Answer {
+    let count = book::given(list, book) + field(list, row, crate::SURPLUS);
+    let nodes = field(list, row, crate::NODES);
+    let root = field(list, row, crate::GOAL);
+    let written = write(list, book, words, count, terms, nodes, root, text);
     Answer {
         call: [written.number, written.place, 0, 0, 0, 0, 0],
         writer: written.number,
         length: written.length,
         checksum: checksum(text, written.length),
-        kept: kept(text, written, crate::junk(s, row)),
+        kept: kept(text, written, crate::junk(list, row)),
     }
 }
 
 // Reads the words and the term of a book.
-fn read(s: &[u8], book: usize, f: &mut [u32], t: &mut [u16]) {
-    test_rows::read_words(s, book::words_at(s, book), book::given(s, book), f);
-    test_rows::read_halves(s, book::numbers_at(s, book), field(s, book, 3), t);
+fn read(list: &[u8], book: usize, words: &mut [u32], terms: &mut [u16]) {
+    test_rows::read_words(
+        list,
+        book::words_at(list, book),
+        book::given(list, book),
+        words,
+    );
+    test_rows::read_halves(
+        list,
+        book::numbers_at(list, book),
+        field(list, book, 3),
+        terms,
+    );
 }
 
 // Lends as much of each slice as the row says.
-fn lend(s: &[u8], row: usize, book: usize, f: &[u32], t: &[u16], text: &mut [u8]) -> Answer {
-    let words = at_most(field(s, row, crate::WORDS), f.len());
-    let numbers = at_most(field(s, row, crate::NUMBERS), t.len());
-    let room = at_most(field(s, row, crate::TEXT), text.len());
-    answer(s, row, book, &f[..words], &t[..numbers], &mut text[..room])
+fn lend(
+    list: &[u8],
+    row: usize,
+    book: usize,
+    words: &[u32],
+    terms: &[u16],
+    text: &mut [u8],
+) -> Answer {
+    let given = at_most(field(list, row, crate::WORDS), words.len());
+    let numbers = at_most(field(list, row, crate::NUMBERS), terms.len());
+    let room = at_most(field(list, row, crate::TEXT), text.len());
+    answer(
+        list,
+        row,
+        book,
+        &words[..given],
+        &terms[..numbers],
+        &mut text[..room],
+    )
 }
 
 // Writes a given term, over slices full of junk.
-pub fn run(s: &[u8], row: usize, book: usize, text: &mut [u8]) -> Answer {
-    let junk = crate::junk(s, row);
-    let mut f = [junk as u32; MOST_WORDS];
-    let mut t = [junk as u16; MOST_NUMBERS];
-    read(s, book, &mut f, &mut t);
-    lend(s, row, book, &f, &t, text)
+pub fn run(list: &[u8], row: usize, book: usize, text: &mut [u8]) -> Answer {
+    let junk = crate::junk(list, row);
+    let mut words = [junk as u32; MOST_WORDS];
+    let mut terms = [junk as u16; MOST_NUMBERS];
+    read(list, book, &mut words, &mut terms);
+    lend(list, row, book, &words, &terms, text)
 }

@@ -7,25 +7,31 @@ use Rattle.test_replay.proofs.all.Statement.{statement}
 use Rattle.test_replay.proofs.all.Tie as tie
 
 abbrev Inv-loop : tie.InvT-loop
-Inv-loop list first count tally₀ row₀ book₀ i₀ tally row book i = (i ≤ count) × (length tally ≡ length tally₀)
+Inv-loop list tally₀ count row₀ i₀ tally row i = (i ≤ count) × (length tally ≡ length tally₀)
 
 abbrev μ-loop : tie.MeasureT-loop
-μ-loop list first count tally₀ row₀ book₀ i₀ tally row book i = count - i
+μ-loop list tally₀ count row₀ i₀ tally row i = count - i
+
+count-requires : tie.Need-count-requires Inv-loop μ-loop
+count-requires c κs = search needs
+
+start-requires : tie.Need-start-requires Inv-loop μ-loop
+start-requires c κs = search needs
 
 loop-holds : tie.Need-loop-holds Inv-loop μ-loop
 loop-holds c = search needs
 
-book-of-requires : tie.Need-book-of-requires Inv-loop μ-loop
-book-of-requires c κs = search needs
+behind-requires : tie.Need-behind-requires Inv-loop μ-loop
+behind-requires c κs = search needs
+
+step-requires : tie.Need-step-requires Inv-loop μ-loop
+step-requires c κs = search needs
 
 runs-equal-requires : tie.Need-runs-equal-requires Inv-loop μ-loop
 runs-equal-requires c κs = search needs
 
 judge-requires : tie.Need-judge-requires Inv-loop μ-loop
 judge-requires c κs = search needs
-
-next-requires : tie.Need-next-requires Inv-loop μ-loop
-next-requires c κs = search needs
 
 add-i : tie.Need-add-i Inv-loop μ-loop
 add-i c = search needs
@@ -48,11 +54,13 @@ all-spec =
     (tie.spec
     Inv-loop
     μ-loop
+    count-requires
+    start-requires
     loop-holds
-    book-of-requires
+    behind-requires
+    step-requires
     runs-equal-requires
     judge-requires
-    next-requires
     add-i
     loop-less
     loop-again
