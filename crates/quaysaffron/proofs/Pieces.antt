@@ -1,6 +1,6 @@
 -- Reads one behind the other leave what a single read of all their bytes leaves. Assumes nothing.
 use Prim.Native.Nat.{ℕ, _≤_}
-use mathlib.Core.Path.{_≡_, ap, refl, sym, _∙_}
+use mathlib.Core.Path.{ap, refl, sym, _∙_}
 use mathlib.Core.List.{List}
 use native.Mathlib.Omega.{arith}
 use lib.ListN.{length, take}

@@ -2,7 +2,6 @@
 use borrow.Author.Needs.{needs}
 use borrow.Rule.Slice.PartMut.{take-put}
 use Prim.Native.Nat.{_-_}
-use native.Mathlib.Omega.{arith}
 use lib.ListN.{length}
 use denote.Ref.{now}
 use Rattle.quaysaffron.proofs.read_more.Statement.{statement}
