@@ -7,9 +7,11 @@ ghost use Rattle.quaysaffron.specs.Reading.{Grown};
 use libc::STDIN_FILENO;
 use libc::STDOUT_FILENO;
 
-// What reading came to: so many bytes at the buffer's front, or a read that failed.
+// What reading came to.
 enum Input {
+    // so many bytes stand at the front of the buffer
     Bytes(usize),
+    // the system refused
     Failed,
 }
 
