@@ -290,4 +290,6 @@ class Apart(InFolder):
 if __name__ == "__main__":
     if not os.access(PROGRAM, os.X_OK):
         sys.exit("test_quay.py: the program is not linked; './quay examples/true.house' links it")
+    # a first run tells that it looks whether all is proved, which the tests do not expect
+    ran(WHOLE)
     unittest.main()
