@@ -262,7 +262,7 @@ fn left_or(
                     terms,
                     limits,
                     s2,
-                    9,
+                    proof_term::CASE,
                     h,
                     GENERATED + x,
                     i,

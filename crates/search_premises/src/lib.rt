@@ -143,7 +143,7 @@ pub fn first(
         terms,
         at,
         x,
-        4,
+        proof_term::FUNCTION,
         GENERATED + y,
         at,
         context::term_at(work, place),
