@@ -15,6 +15,8 @@ CONTRACTS = ROOT / 'docs' / 'CONTRACTS.md'
 ROW = re.compile(r'^(\| `(\w+/\w+)` \| [^|\n]+ \|)(?: `([^`]+)`)? \|$', flags=re.M)
 # A log's first error: the file that it stands in, and what in that file is refused.
 ERROR = re.compile(r'^\S*?/((?:src|specs|proofs)/\S+?):\d+:\d+: error(?:\[[\w-]+\])?: (?:`([^`]+)`)?')
+# Where the toolchain makes a function's proof by itself: the source, the line of the function, and what it could not show.
+UNPROVED = re.compile(r'^note: (\S+?):(\d+):\d+: it is not proved .*\(`([^`]+)`\)$')
 
 
 def room(path, what):
@@ -28,12 +30,19 @@ def room(path, what):
     return named[-1] + (': ' + what if what else '')
 
 
+def function_at(source, line):
+    """The name of the function that starts at a line of a source."""
+    return re.search(r'fn (\w+)', ''.join(pathlib.Path(source).read_text().splitlines(True)[line - 1:])).group(1)
+
+
 def first_refused(log):
     """The place of a log's first error."""
     for line in log.read_text().splitlines():
-        found = ERROR.match(line)
-        if found:
-            return room(*found.groups())
+        error, unproved = ERROR.match(line), UNPROVED.match(line)
+        if error:
+            return room(*error.groups())
+        if unproved:
+            return '%s: %s' % (function_at(unproved.group(1), int(unproved.group(2))), unproved.group(3))
     return None
 
 
