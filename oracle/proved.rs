@@ -18,33 +18,54 @@ struct Record {
 #[link(name = "exported", kind = "static")]
 extern "C" {
     fn quaysaffron_output(file: *const u8, length: usize, out: *mut [u8; ROOM]) -> usize;
-    fn quaysaffron_prove(
-        words: *mut u32,
-        room: usize,
-        count: usize,
-        assumed: *const u16,
-        assumptions: usize,
-        names: *const u8,
-        bytes: usize,
-        goal: usize,
-        terms: *mut u16,
-        numbers: usize,
-        work: *mut Record,
-        records: usize,
-        steps: usize,
-        told: *mut [usize; 7],
-    ) -> bool;
-    fn quaysaffron_status(
-        words: *mut u32,
-        room: usize,
-        count: usize,
-        goal: usize,
-        terms: *mut u16,
-        numbers: usize,
-        work: *mut Record,
-        records: usize,
-        steps: usize,
-    ) -> usize;
+}
+
+/// Declares calls that are lent what a search is: what stands between the words and the goal, and what behind the steps, is their own.
+macro_rules! searches {
+    ($($name:ident($($given:ident: $kind:ty),*; $($told:ident: $place:ty),*) -> $answer:ty;)*) => {
+        extern "C" {
+            $(fn $name(
+                words: *mut u32,
+                room: usize,
+                count: usize,
+                $($given: $kind,)*
+                goal: usize,
+                terms: *mut u16,
+                numbers: usize,
+                work: *mut Record,
+                records: usize,
+                steps: usize,
+                $($told: $place,)*
+            ) -> $answer;)*
+        }
+    };
+}
+
+searches! {
+    quaysaffron_prove(assumed: *const u16, assumptions: usize, names: *const u8, bytes: usize; told: *mut [usize; 7]) -> bool;
+    quaysaffron_status(;) -> usize;
+}
+
+/// Such a call over what is lent, with what it is given and told beside it.
+macro_rules! asked {
+    ($name:ident, $lent:ident, [$($given:expr),*], [$($told:expr),*]) => {
+        // the slices are whole and apart, as the call takes them
+        unsafe {
+            $name(
+                $lent.words.as_mut_ptr(),
+                $lent.words.len(),
+                $lent.count,
+                $($given,)*
+                $lent.goal,
+                $lent.terms.as_mut_ptr(),
+                $lent.terms.len(),
+                $lent.work.as_mut_ptr(),
+                $lent.work.len(),
+                STEPS,
+                $($told,)*
+            )
+        }
+    };
 }
 
 /// What a well-cut file and the program's limits lend to a search; behind what is given, the slices are full of junk.
@@ -111,25 +132,9 @@ fn output(file: &[u8], out: &mut [u8; ROOM]) -> usize {
 /// call was refused.
 fn searched(file: &[u8]) -> String {
     let (mut lent, mut told) = (Lent::new(file), [0xaaaa; 7]);
-    // the slices are whole and apart, as the call takes them
-    let proved = unsafe {
-        quaysaffron_prove(
-            lent.words.as_mut_ptr(),
-            lent.words.len(),
-            lent.count,
-            lent.assumed.as_ptr(),
-            lent.assumed.len(),
-            lent.names.as_ptr(),
-            lent.names.len(),
-            lent.goal,
-            lent.terms.as_mut_ptr(),
-            lent.terms.len(),
-            lent.work.as_mut_ptr(),
-            lent.work.len(),
-            STEPS,
-            &mut told,
-        )
-    };
+    let (assumed, assumptions) = (lent.assumed.as_ptr(), lent.assumed.len());
+    let (names, bytes) = (lent.names.as_ptr(), lent.names.len());
+    let proved = asked!(quaysaffron_prove, lent, [assumed, assumptions, names, bytes], [&mut told]);
     let [number, _, _, steps, indices, formulas, terms] = told;
     let words = if proved { formulas } else { lent.count };
     assert!((1..=5).contains(&number) || lent.zero_behind(words, 6 * terms));
@@ -162,20 +167,7 @@ fn time(file: &[u8]) -> Vec<u8> {
 /// The status of a well-cut file's goal. What must be zero in the end is, unless the call was refused.
 fn status(file: &[u8]) -> Vec<u8> {
     let mut lent = Lent::new(file);
-    // the slices are whole and apart, as the call takes them
-    let number = unsafe {
-        quaysaffron_status(
-            lent.words.as_mut_ptr(),
-            lent.words.len(),
-            lent.count,
-            lent.goal,
-            lent.terms.as_mut_ptr(),
-            lent.terms.len(),
-            lent.work.as_mut_ptr(),
-            lent.work.len(),
-            STEPS,
-        )
-    };
+    let number = asked!(quaysaffron_status, lent, [], []);
     assert!((1..=5).contains(&number) || lent.zero_behind(lent.count, 0));
     match number {
         16 => b"solvable\n".to_vec(),
