@@ -1,6 +1,5 @@
 -- What the public call owes: its outcome with its numbers, and what each lent slice holds afterwards, as theory's definition of the
--- whole call has them.
--- Assumes nothing.
+-- whole call has them. Assumes nothing.
 use Prim.Native.Nat.{ℕ}
 use mathlib.Core.Path.{_≡_}
 use mathlib.Core.List.{List}

@@ -1,6 +1,5 @@
 -- What the status owes: its answer with its numbers, and what each lent slice holds afterwards, as theory's definition of the status has
--- them; and what is
--- left to ask where the first search failed. Assumes nothing.
+-- them; and what is left to ask where the first search failed. Assumes nothing.
 use Prim.Native.Nat.{ℕ}
 use mathlib.Core.Path.{_≡_}
 use mathlib.Core.Bool.{true, false}
