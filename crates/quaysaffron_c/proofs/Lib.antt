@@ -1,0 +1,2 @@
+pub mod Generated
+pub mod Told
