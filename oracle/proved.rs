@@ -1,72 +1,13 @@
-//! The proved calls as another language calls them, fed as the model is: what the program prints for a house file, beside the search
-//! alone; with --status the status of its goal, the assumptions left out; with --time the nanoseconds of one output, bytes to bytes.
+//! The proved calls as another language calls them, fed as the model is: what the program prints for a house file, beside the search and
+//! the writer alone; with --status the status of its goal, the assumptions left out; with --time the nanoseconds of one output, bytes to
+//! bytes.
 mod feed;
 mod timing;
 
+use quaysaffron::raw::{self, Answer, Record, Tested};
 use std::io;
 
-const ROOM: usize = 32_835;
-const STEPS: usize = 1_000_000;
-
-#[derive(Clone, PartialEq)]
-#[repr(C)]
-struct Record {
-    formula: u16,
-    term: u16,
-}
-
-#[link(name = "exported", kind = "static")]
-extern "C" {
-    fn quaysaffron_output(file: *const u8, length: usize, out: *mut [u8; ROOM]) -> usize;
-}
-
-/// Declares calls that are lent what a search is: what stands between the words and the goal, and what behind the steps, is their own.
-macro_rules! searches {
-    ($($name:ident($($given:ident: $kind:ty),*; $($told:ident: $place:ty),*) -> $answer:ty;)*) => {
-        extern "C" {
-            $(fn $name(
-                words: *mut u32,
-                room: usize,
-                count: usize,
-                $($given: $kind,)*
-                goal: usize,
-                terms: *mut u16,
-                numbers: usize,
-                work: *mut Record,
-                records: usize,
-                steps: usize,
-                $($told: $place,)*
-            ) -> $answer;)*
-        }
-    };
-}
-
-searches! {
-    quaysaffron_prove(assumed: *const u16, assumptions: usize, names: *const u8, bytes: usize; told: *mut [usize; 7]) -> bool;
-    quaysaffron_status(;) -> usize;
-}
-
-/// Such a call over what is lent, with what it is given and told beside it.
-macro_rules! asked {
-    ($name:ident, $lent:ident, [$($given:expr),*], [$($told:expr),*]) => {
-        // the slices are whole and apart, as the call takes them
-        unsafe {
-            $name(
-                $lent.words.as_mut_ptr(),
-                $lent.words.len(),
-                $lent.count,
-                $($given,)*
-                $lent.goal,
-                $lent.terms.as_mut_ptr(),
-                $lent.terms.len(),
-                $lent.work.as_mut_ptr(),
-                $lent.work.len(),
-                STEPS,
-                $($told,)*
-            )
-        }
-    };
-}
+const JUNK: u16 = 0xaaaa;
 
 /// What a well-cut file and the program's limits lend to a search; behind what is given, the slices are full of junk.
 struct Lent {
@@ -92,88 +33,157 @@ impl Lent {
             names.extend(&file[at + 2..end]);
             at = end;
         }
-        let words = (0..4096).map(|i| if i < count { word(2 + 4 * i) } else { 8 });
+        let words = (0..raw::PROGRAM_WORDS).map(|i| {
+            if i < count {
+                word(2 + 4 * i)
+            } else {
+                raw::NO_WORD
+            }
+        });
+        let junk = Record {
+            formula: JUNK,
+            term: JUNK,
+        };
         Lent {
             words: words.collect(),
             count,
             assumed,
             names,
             goal: half(at + 2) as usize,
-            terms: vec![0xaaaa; 4096 * 6],
-            work: vec![
-                Record {
-                    formula: 0xaaaa,
-                    term: 0xaaaa
-                };
-                16384
-            ],
+            terms: vec![JUNK; raw::PROGRAM_NODES * raw::NODE_NUMBERS],
+            work: vec![junk; raw::WORK_RECORDS],
         }
     }
 
     /// Whether everything is zero but for so many words and term numbers.
     fn zero_behind(&self, words: usize, numbers: usize) -> bool {
-        let zeroed = Record {
-            formula: 0,
-            term: 0,
-        };
         self.words[words..].iter().all(|word| *word == 0)
             && self.terms[numbers..].iter().all(|number| *number == 0)
-            && self.work.iter().all(|record| *record == zeroed)
+            && self.work.iter().all(|record| *record == Record::default())
+    }
+
+    /// Whether the tests of words and of names alone refuse what the search refused, if that is theirs; it tests words before names.
+    fn tested_as(&self, answer: &Answer) -> bool {
+        let words = raw::test_words(&self.words, self.count);
+        let names = raw::test_names(&self.names, self.assumed.len());
+        let refused = Tested {
+            number: answer.number,
+            place: answer.place,
+        };
+        match answer.number {
+            raw::BAD_FORMULA => words == refused,
+            raw::BAD_NAMES => words == Tested::default() && names == refused,
+            raw::SIZES | raw::BAD_ASSUMPTION => true,
+            _ => words == Tested::default() && names == Tested::default(),
+        }
+    }
+
+    /// The line of the text of what was proved, or of its refusal; behind the text the buffer must be zero.
+    fn text_line(&self, answer: &Answer) -> Result<String, usize> {
+        let mut text = vec![JUNK as u8; raw::PROGRAM_TEXT_BYTES];
+        let (formulas, terms) = (answer.formulas, answer.terms);
+        let assumptions = self.assumed.len();
+        let written = raw::text(
+            &self.words,
+            formulas,
+            assumptions,
+            &self.names,
+            &self.terms,
+            terms,
+            answer.root,
+            &mut text,
+        );
+        assert!(text[written.size..].iter().all(|byte| *byte == 0));
+        match written.number {
+            0 => Ok(String::from_utf8(text[..written.size].to_vec()).expect("a text")),
+            number => Err(number),
+        }
     }
 }
 
-/// Prints into the array, and tells how many bytes.
-fn output(file: &[u8], out: &mut [u8; ROOM]) -> usize {
-    // the file and the array are whole and apart, as the call takes them
-    unsafe { quaysaffron_output(file.as_ptr(), file.len(), out) }
-}
-
-/// What the search says of a well-cut file, in the lines that are printed but for the text. What must be zero in the end is, unless the
-/// call was refused.
+/// What the search and the writer say of a well-cut file, in the lines that are printed. What must be zero in the end is, unless the call
+/// was refused.
 fn searched(file: &[u8]) -> String {
-    let (mut lent, mut told) = (Lent::new(file), [0xaaaa; 7]);
-    let (assumed, assumptions) = (lent.assumed.as_ptr(), lent.assumed.len());
-    let (names, bytes) = (lent.names.as_ptr(), lent.names.len());
-    let proved = asked!(quaysaffron_prove, lent, [assumed, assumptions, names, bytes], [&mut told]);
-    let [number, _, _, steps, indices, formulas, terms] = told;
-    let words = if proved { formulas } else { lent.count };
-    assert!((1..=5).contains(&number) || lent.zero_behind(words, 6 * terms));
-    match (proved, number) {
-        (true, _) => {
-            format!("proved\nsteps {steps}\nnames {indices}\nformulas {formulas}\nterms {terms}\n")
-        }
-        (false, 0) => format!("unprovable\nsteps {steps}\n"),
+    let mut lent = Lent::new(file);
+    let Lent {
+        words,
+        count,
+        assumed,
+        names,
+        goal,
+        terms,
+        work,
+    } = &mut lent;
+    let answer = raw::prove(
+        words,
+        *count,
+        assumed,
+        names,
+        *goal,
+        terms,
+        work,
+        raw::PROGRAM_STEPS,
+    );
+    let Answer {
+        kind,
+        number,
+        steps,
+        indices,
+        formulas,
+        terms,
+        ..
+    } = answer;
+    let words = if kind == raw::PROVED {
+        formulas
+    } else {
+        lent.count
+    };
+    assert!(kind == raw::REFUSED || lent.zero_behind(words, raw::NODE_NUMBERS * terms));
+    assert!(lent.tested_as(&answer));
+    match kind {
+        raw::PROVED => match lent.text_line(&answer) {
+            Ok(text) => format!("proved\nsteps {steps}\nnames {indices}\nformulas {formulas}\nterms {terms}\n{text}\n"),
+            Err(number) => format!("refused {number}\n"),
+        },
+        raw::UNPROVABLE => format!("unprovable\nsteps {steps}\n"),
         _ => format!("refused {number}\n"),
     }
 }
 
-/// The printed bytes, from an array full of junk; behind them every byte must be zero, and the search alone must say the same, unless
-/// there is no book or no text.
+/// The printed bytes, from an array full of junk; behind them every byte must be zero, and the search and the writer alone must say the
+/// same, unless the file is no book.
 fn printed(file: &[u8]) -> Vec<u8> {
-    let mut out = [0xaa; ROOM];
-    let length = output(file, &mut out);
+    let mut out = [JUNK as u8; raw::OUTPUT_BYTES];
+    let length = raw::output(file, &mut out);
     assert!(out[length..].iter().all(|byte| *byte == 0));
     let lines = &out[..length];
-    let apart = lines == b"refused 14\n" || lines == b"refused 12\n";
-    assert!(apart || lines.starts_with(searched(file).as_bytes()));
+    assert!(lines == b"refused 14\n" || lines == searched(file).as_bytes());
     lines.to_vec()
 }
 
 fn time(file: &[u8]) -> Vec<u8> {
-    let mut out = [0xaa; ROOM];
-    timing::nanoseconds(|| output(file, &mut out))
+    let mut out = [JUNK as u8; raw::OUTPUT_BYTES];
+    timing::nanoseconds(|| raw::output(file, &mut out))
 }
 
 /// The status of a well-cut file's goal. What must be zero in the end is, unless the call was refused.
 fn status(file: &[u8]) -> Vec<u8> {
     let mut lent = Lent::new(file);
-    let number = asked!(quaysaffron_status, lent, [], []);
-    assert!((1..=5).contains(&number) || lent.zero_behind(lent.count, 0));
-    match number {
-        16 => b"solvable\n".to_vec(),
-        17 => b"unsolvable\n".to_vec(),
-        18 => b"unknown\n".to_vec(),
-        _ => format!("refused {number}\n").into_bytes(),
+    let Lent {
+        words,
+        count,
+        goal,
+        terms,
+        work,
+        ..
+    } = &mut lent;
+    let answer = raw::status(words, *count, *goal, terms, work, raw::PROGRAM_STEPS);
+    assert!(answer.kind == raw::REFUSED || lent.zero_behind(lent.count, 0));
+    match answer.kind {
+        raw::SOLVABLE => b"solvable\n".to_vec(),
+        raw::UNSOLVABLE => b"unsolvable\n".to_vec(),
+        raw::UNKNOWN => b"unknown\n".to_vec(),
+        _ => format!("refused {}\n", answer.number).into_bytes(),
     }
 }
 
