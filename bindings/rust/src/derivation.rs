@@ -1,0 +1,133 @@
+//! A found derivation.
+use crate::{raw, Refusal};
+
+/// A derivation of a claim's goal from its assumptions: all that was found, to be kept or filed.
+///
+/// It owns the words of the book with those that the search made, the nodes of the term and the names of the assumptions, and needs
+/// neither the book nor the prover any longer. Two are equal when all of that is, and root, steps and names; the text limit is no part
+/// of it. docs/AUDITORS.md tells how the text is read. It is not `Display`, since a text may have no room.
+#[derive(Clone, Debug)]
+pub struct Derivation {
+    words: Vec<u32>,
+    numbers: Vec<u16>,
+    assumptions: usize,
+    names: Vec<u8>,
+    answer: raw::Answer,
+    room: usize,
+}
+
+impl Derivation {
+    /// Keeps what a search left in the lent slices.
+    pub(crate) fn kept(
+        answer: raw::Answer,
+        words: &[u32],
+        numbers: &[u16],
+        (assumptions, names): (usize, &[u8]),
+        room: usize,
+    ) -> Derivation {
+        Derivation {
+            words: words[..answer.formulas].to_vec(),
+            numbers: numbers[..answer.terms * raw::NODE_NUMBERS].to_vec(),
+            assumptions,
+            names: names.to_vec(),
+            answer,
+            room,
+        }
+    }
+
+    /// The house text; [`NoRoom`](Refusal::NoRoom) where it would pass the text limit of the prover that found it, or 1,024 nodes on a
+    /// path. A buffer as long as that limit is allocated for it.
+    pub fn text(&self) -> Result<String, Refusal> {
+        let mut buffer = vec![0; self.room];
+        let text = self.write(&mut buffer)?;
+        // it is ASCII, so nothing is lost
+        Ok(String::from_utf8_lossy(text).into_owned())
+    }
+
+    /// Writes the house text to the front of a buffer of any length, with zeros behind it, and gives the front back. Nothing is
+    /// allocated.
+    ///
+    /// [`NoRoom`](Refusal::NoRoom) where the text would pass the buffer, or 1,024 nodes on a path; then the buffer is zero.
+    ///
+    /// ```
+    /// use quaysaffron::{Book, Claim, Refusal};
+    ///
+    /// let mut book = Book::new();
+    /// let truth = book.truth();
+    /// let derivation = Claim::new(&book, truth).prove()?.derivation().expect("it follows");
+    /// assert_eq!(derivation.write(&mut [1; 80])?, b"()");
+    /// assert_eq!(derivation.write(&mut [1; 1]), Err(Refusal::NoRoom));
+    /// # Ok::<(), Refusal>(())
+    /// ```
+    pub fn write<'t>(&self, buffer: &'t mut [u8]) -> Result<&'t [u8], Refusal> {
+        let written = raw::text(
+            &self.words,
+            self.formulas(),
+            self.assumptions,
+            &self.names,
+            &self.numbers,
+            self.terms(),
+            self.root(),
+            buffer,
+        );
+        match written.number {
+            0 => Ok(&buffer[..written.size]),
+            number => Err(Refusal::told(number, written.place, 0)),
+        }
+    }
+
+    /// The steps of the search.
+    pub fn steps(&self) -> usize {
+        self.answer.steps
+    }
+
+    /// The generated names that the search went through, skipped ones included.
+    pub fn names(&self) -> usize {
+        self.answer.indices
+    }
+
+    /// The words in use: those of the book, and those that the search made.
+    pub fn formulas(&self) -> usize {
+        self.answer.formulas
+    }
+
+    /// The nodes in use.
+    pub fn terms(&self) -> usize {
+        self.answer.terms
+    }
+
+    /// The node of the derivation itself.
+    pub fn root(&self) -> usize {
+        self.answer.root
+    }
+
+    /// The words in use, one a formula.
+    pub fn words(&self) -> &[u32] {
+        &self.words
+    }
+
+    /// The nodes in use, [`NODE_NUMBERS`](raw::NODE_NUMBERS) numbers each; docs/REFERENCE.md, section 2, has their layout.
+    pub fn numbers(&self) -> &[u16] {
+        &self.numbers
+    }
+
+    /// How many assumptions the claim had.
+    pub fn assumptions(&self) -> usize {
+        self.assumptions
+    }
+
+    /// The assumptions' names, each behind a byte with its length.
+    pub fn name_text(&self) -> &[u8] {
+        &self.names
+    }
+}
+
+impl PartialEq for Derivation {
+    fn eq(&self, other: &Derivation) -> bool {
+        let counts = |of: &Derivation| (of.answer, of.assumptions);
+        let slices = |of: &Derivation| of.words == other.words && of.numbers == other.numbers;
+        counts(self) == counts(other) && slices(self) && self.names == other.names
+    }
+}
+
+impl Eq for Derivation {}

@@ -1,0 +1,178 @@
+//! The numbers that come back.
+use crate::raw;
+use std::error::Error;
+use std::fmt;
+
+/// Why there is no answer: a row of the table of docs/REFERENCE.md, section 3.
+///
+/// [`Sizes`](Refusal::Sizes) to [`BadGoal`](Refusal::BadGoal) refuse what was given, and the lowest row comes back.
+/// [`Steps`](Refusal::Steps) to [`Levels`](Refusal::Levels) are shortages: the search would pass that limit, after it entered so many
+/// steps, and nothing is said of the claim.
+#[derive(Clone, Copy, Debug, PartialEq, Eq, Hash)]
+#[non_exhaustive]
+pub enum Refusal {
+    /// 1: over 16,384 words, more words than the limits lend, over 16,384 nodes, or over 1,000,000 steps.
+    Sizes,
+    /// 2: a word of the book breaks the layout.
+    BadFormula {
+        /// The lowest such word.
+        place: usize,
+    },
+    /// 3: an assumption's formula is not in the book, or there are over 64 assumptions.
+    BadAssumption {
+        /// The first such assumption, or 64.
+        place: usize,
+    },
+    /// 4: a name does not have 1 to 32 bytes from A-Z, a-z, 0-9 and _, or repeats an earlier one.
+    BadNames {
+        /// The first such name.
+        place: usize,
+    },
+    /// 5: the goal's formula is not in the book.
+    BadGoal,
+    /// 6: the search would pass the step limit.
+    Steps {
+        /// The limit.
+        steps: usize,
+    },
+    /// 7: the search would pass 4,096 generated names.
+    Names {
+        /// The steps entered; 0 for a name that was asked for alone.
+        steps: usize,
+    },
+    /// 8: the search would pass the lent words.
+    Formulas {
+        /// The steps entered.
+        steps: usize,
+    },
+    /// 9: the search would pass the lent nodes.
+    Terms {
+        /// The steps entered.
+        steps: usize,
+    },
+    /// 10: the search would pass 256 records in a sequent.
+    Contexts {
+        /// The steps entered.
+        steps: usize,
+    },
+    /// 11: the search would pass level 63.
+    Levels {
+        /// The steps entered.
+        steps: usize,
+    },
+    /// 12: a text is longer than its buffer, or has over 1,024 nodes on a path.
+    NoRoom,
+    /// 13: a term node breaks the layout. No [`Derivation`](crate::Derivation) meets it: it stands here for [`raw::text`].
+    BadTerm {
+        /// The lowest such node, or the node count where the root is not below it.
+        place: usize,
+    },
+    /// 14: the bytes are no house file. It stands here for what [`output`](crate::output) prints.
+    BadFile,
+}
+
+use Refusal::*;
+
+impl Refusal {
+    /// The row of a number that a call told. That no call tells a number outside the table is proved, so the last row takes the rest.
+    pub(crate) fn told(number: usize, place: usize, steps: usize) -> Refusal {
+        match number {
+            raw::SIZES => Sizes,
+            raw::BAD_FORMULA => BadFormula { place },
+            raw::BAD_ASSUMPTION => BadAssumption { place },
+            raw::BAD_NAMES => BadNames { place },
+            raw::BAD_GOAL => BadGoal,
+            raw::STEPS => Steps { steps },
+            raw::NAMES => Names { steps },
+            raw::FORMULAS => Formulas { steps },
+            raw::TERMS => Terms { steps },
+            raw::CONTEXTS => Contexts { steps },
+            raw::LEVELS => Levels { steps },
+            raw::NO_ROOM => NoRoom,
+            raw::BAD_TERM => BadTerm { place },
+            _ => BadFile,
+        }
+    }
+
+    /// The number of the row, as in the line `refused N`.
+    pub fn number(&self) -> usize {
+        match self {
+            Sizes => raw::SIZES,
+            BadFormula { .. } => raw::BAD_FORMULA,
+            BadAssumption { .. } => raw::BAD_ASSUMPTION,
+            BadNames { .. } => raw::BAD_NAMES,
+            BadGoal => raw::BAD_GOAL,
+            Steps { .. } => raw::STEPS,
+            Names { .. } => raw::NAMES,
+            Formulas { .. } => raw::FORMULAS,
+            Terms { .. } => raw::TERMS,
+            Contexts { .. } => raw::CONTEXTS,
+            Levels { .. } => raw::LEVELS,
+            NoRoom => raw::NO_ROOM,
+            BadTerm { .. } => raw::BAD_TERM,
+            BadFile => raw::BAD_FILE,
+        }
+    }
+
+    /// Whether a search would have passed a limit: rows 6 to 11. Such a claim may be answered where more is lent.
+    pub fn is_shortage(&self) -> bool {
+        self.steps().is_some()
+    }
+
+    /// The steps that the search had entered, of a shortage.
+    pub fn steps(&self) -> Option<usize> {
+        match *self {
+            Steps { steps } | Names { steps } | Formulas { steps } => Some(steps),
+            Terms { steps } | Contexts { steps } | Levels { steps } => Some(steps),
+            _ => None,
+        }
+    }
+
+    /// The place of what is at fault, of the rows that have one.
+    pub fn place(&self) -> Option<usize> {
+        match *self {
+            BadFormula { place } | BadAssumption { place } => Some(place),
+            BadNames { place } | BadTerm { place } => Some(place),
+            _ => None,
+        }
+    }
+}
+
+/// The refusal in words, in one line without its number.
+impl fmt::Display for Refusal {
+    fn fmt(&self, f: &mut fmt::Formatter) -> fmt::Result {
+        match self {
+            Sizes => write!(f, "Sizes: something lent does not have its size"),
+            BadFormula { place } => write!(f, "BadFormula: word {place} breaks the layout"),
+            BadAssumption { place: raw::MOST_ASSUMPTIONS } => {
+                write!(f, "BadAssumption: there are over 64 assumptions")
+            }
+            BadAssumption { place } => {
+                write!(f, "BadAssumption: the formula of assumption {place} is not in the book")
+            }
+            BadNames { place } => write!(
+                f,
+                "BadNames: name {place} does not have 1 to 32 bytes from A-Z, a-z, 0-9 and _, or repeats an earlier one"
+            ),
+            BadGoal => write!(f, "BadGoal: the goal's formula is not in the book"),
+            Steps { steps } => write!(f, "Steps: the search would pass {steps} steps"),
+            Names { steps } => passed(f, "Names", "4,096 generated names", steps),
+            Formulas { steps } => passed(f, "Formulas", "the lent words", steps),
+            Terms { steps } => passed(f, "Terms", "the lent nodes", steps),
+            Contexts { steps } => passed(f, "Contexts", "256 records in a sequent", steps),
+            Levels { steps } => passed(f, "Levels", "level 63", steps),
+            NoRoom => write!(f, "NoRoom: the text would pass its buffer, or 1,024 nodes on a path"),
+            BadTerm { place } => write!(f, "BadTerm: node {place} breaks the layout"),
+            BadFile => write!(f, "BadFile: the bytes are no house file"),
+        }
+    }
+}
+
+fn passed(f: &mut fmt::Formatter, name: &str, limit: &str, steps: &usize) -> fmt::Result {
+    write!(
+        f,
+        "{name}: the search would pass {limit}, after {steps} steps"
+    )
+}
+
+impl Error for Refusal {}
