@@ -68,10 +68,16 @@ abbrev pub inOrder : Kind → Numbers → List ℕ
 inOrder k n =
     kindNumber k ∷ n .number ∷ n .place ∷ n .root ∷ n .steps ∷ n .indices ∷ n .formulas ∷ n .terms ∷ []
 
+abbrev pub outcomeAnswer : Outcome → List ℕ
+outcomeAnswer o = inOrder (outcomeKind o) (numbers o)
+
+abbrev pub statusAnswer : Status → List ℕ
+statusAnswer s = inOrder (statusKind s) (statusNumbers s)
+
 -- the claim x with the work records w comes to the number k and the answer a; f, t and w1 are its words, term numbers and records afterwards
 pub record Searched (x : Claim) (w : List Rec) (k : ℕ) (a f t : List ℕ) (w1 : List Rec) : Type 0 where
   pub number : k ≡ numbers ((called x) .outcome) .number
-  pub answer : a ≡ inOrder (outcomeKind ((called x) .outcome)) (numbers ((called x) .outcome))
+  pub answer : a ≡ outcomeAnswer ((called x) .outcome)
   pub words : f ≡ (called x) .words
   pub terms : t ≡ (called x) .terms
   pub records : w1 ≡ recordsAfter zeroed (called x) w
@@ -80,7 +86,7 @@ pub record Searched (x : Claim) (w : List Rec) (k : ℕ) (a f t : List ℕ) (w1 
 -- afterwards
 pub record Settled (x : Inquiry) (w : List Rec) (k : ℕ) (a f t : List ℕ) (w1 : List Rec) : Type 0 where
   pub number : k ≡ statusNumbers ((asked x) .status) .number
-  pub answer : a ≡ inOrder (statusKind ((asked x) .status)) (statusNumbers ((asked x) .status))
+  pub answer : a ≡ statusAnswer ((asked x) .status)
   pub words : f ≡ (asked x) .words
   pub terms : t ≡ (asked x) .terms
   pub records : w1 ≡ recordsLeft (asked x) w
