@@ -147,7 +147,7 @@ pub const BAD_TERM: usize = 13;
 pub const BAD_FILE: usize = 14;
 
 /// A thread's whole stack with which every call has slack, in bytes. Measured by `bindings/c/stack.c`, not proved.
-pub const STACK_BYTES: usize = 524_288;
+pub const STACK_BYTES: usize = 1_048_576;
 
 /// A word of no kind, which is refused with [`BAD_FORMULA`] wherever it stands.
 pub const NO_WORD: u32 = 15;

@@ -1,0 +1,173 @@
+//! The written cases of document 01, "Pennies on both sides", through claims and provers. The counts that it does not state are those of
+//! crates/test_cases/stdout.
+mod common;
+
+use common::{formula, Assumed, Case, TIPS, TIPS_GOAL};
+use quaysaffron::{raw, Book, Limits, Outcome, Prover, Refusal, Status};
+
+const WHOLE: &str = "(> (> (| p0 (> p0 F)) F) F)";
+const WHOLE_TEXT: &str = "(fn a (abort (app (as (fn c (app a (inr c))) (> (> p0 F) F)) \
+    (fn f (abort (app (as (fn b (app a (inl b))) (> p0 F)) f))))))";
+const TIPS_TEXT: &str = "(case someone_closed a (inl (app (app rule_ana a) left_over)) \
+    b (case b c (inr (inl (app (app rule_ben c) left_over))) d (inr (inr (app (app rule_cleo d) left_over)))))";
+const EITHER: Assumed = &[("x", "(| p0 p1)")];
+const FIRED: Assumed = &[("x", "p0"), ("y", "(> p0 p1)"), ("z", "(> p0 p2)")];
+
+/// Assumptions, goal, text, and the root, steps, names, formulas and terms.
+const PROVED: &[(Assumed, &str, &str, [usize; 5])] = &[
+    (&[], "T", "()", [0, 1, 0, 1, 1]),
+    (&[("x", "F")], "T", "()", [1, 1, 0, 2, 2]),
+    (&[], "(> p0 p0)", "(fn a a)", [1, 5, 1, 2, 2]),
+    (&[("a", "p0")], "(> p0 p0)", "(fn b b)", [2, 6, 2, 2, 3]),
+    (&[("x", "p0"), ("y", "p0")], "p0", "y", [1, 5, 0, 1, 2]),
+    (&[("x", "F")], "p0", "(abort x)", [1, 2, 0, 2, 2]),
+    (
+        EITHER,
+        "(| p1 p0)",
+        "(case x a (inr a) b (inl b))",
+        [5, 17, 2, 4, 6],
+    ),
+    (&[("x", "U5")], "U5", "x", [0, 4, 0, 1, 1]),
+    (FIRED, "p2", "(app z x)", [3, 10, 0, 5, 5]),
+    (&[], WHOLE, WHOLE_TEXT, [22, 15, 6, 9, 23]),
+    (TIPS, TIPS_GOAL, TIPS_TEXT, [21, 60, 4, 17, 22]),
+];
+
+#[test]
+fn proved() {
+    for (assumed, goal, text, counts) in PROVED {
+        let case = Case::new(assumed, goal);
+        let said = case.claim().prove().expect("an answer");
+        let found = said.derivation().expect("a derivation");
+        assert_eq!(found.text().as_deref(), Ok(*text));
+        let told = [
+            found.root(),
+            found.steps(),
+            found.names(),
+            found.formulas(),
+            found.terms(),
+        ];
+        assert_eq!(told, *counts, "{goal}");
+        assert_eq!(found.words().len(), found.formulas());
+        assert_eq!(found.numbers().len(), raw::NODE_NUMBERS * found.terms());
+        assert_eq!(found.assumptions(), assumed.len());
+    }
+}
+
+#[test]
+fn unprovable() {
+    let cases: &[(Assumed, &str, usize, usize)] = &[
+        (&[], "F", 3, 0),
+        (&[], "(| p0 (> p0 F))", 11, 1),
+        (&[], "(> (> (> p0 p1) p0) p0)", 11, 4),
+        (&[("x", "U5")], "E5", 4, 0),
+        (&[("x", "U5")], "p5", 4, 0),
+    ];
+    for &(assumed, goal, steps, names) in cases {
+        let said = Case::new(assumed, goal).claim().prove();
+        assert_eq!(said, Ok(Outcome::Unprovable { steps, names }), "{goal}");
+    }
+}
+
+#[test]
+fn both_sides_of_a_limit() {
+    let identity = Case::new(&[], "(> p0 p0)");
+    let either = Case::new(EITHER, "(| p1 p0)");
+    let steps = |steps| Limits {
+        steps,
+        ..Limits::default()
+    };
+    let terms = |terms| Limits {
+        terms,
+        ..Limits::default()
+    };
+    let said = |case: &Case, limits| Prover::with_limits(limits).prove(&case.claim());
+    assert_eq!(said(&identity, steps(5)), identity.claim().prove());
+    assert_eq!(said(&identity, steps(4)), Err(Refusal::Steps { steps: 4 }));
+    assert_eq!(said(&either, terms(6)), either.claim().prove());
+    assert_eq!(said(&either, terms(5)), Err(Refusal::Terms { steps: 17 }));
+}
+
+#[test]
+fn status() {
+    let mut prover = Prover::new();
+    let cases = [
+        ("T", Status::Solvable),
+        ("F", Status::Unsolvable),
+        ("p0", Status::Unsolvable),
+        ("p8191", Status::Unsolvable),
+        ("p8192", Status::Unknown),
+        ("p16383", Status::Unknown),
+        ("U0", Status::Unknown),
+        ("E0", Status::Unknown),
+        ("(& p8192 (> p8192 F))", Status::Unsolvable),
+    ];
+    for (goal, status) in cases {
+        let case = Case::new(&[], goal);
+        assert_eq!(prover.status(&case.book, case.goal), Ok(status), "{goal}");
+    }
+}
+
+/// A shortage in the first search is told, one in the second is Unknown.
+#[test]
+fn status_at_a_step_limit() {
+    let case = Case::new(&[], "(& p8192 (> p8192 F))");
+    let said = |steps| {
+        let limits = Limits {
+            steps,
+            ..Limits::default()
+        };
+        Prover::with_limits(limits).status(&case.book, case.goal)
+    };
+    assert_eq!(said(0), Err(Refusal::Steps { steps: 0 }));
+    assert_eq!(said(3), Err(Refusal::Steps { steps: 3 }));
+    assert_eq!(said(4), Ok(Status::Unknown));
+    assert_eq!(said(7), Ok(Status::Unknown));
+    assert_eq!(said(8), Ok(Status::Unsolvable));
+}
+
+/// A status needs room for two words more.
+#[test]
+fn status_at_a_word_limit() {
+    let case = Case::new(&[], "(& p8192 (> p8192 F))");
+    let said = |more| {
+        let formulas = case.book.words().len() + more;
+        let limits = Limits {
+            formulas,
+            ..Limits::default()
+        };
+        Prover::with_limits(limits).status(&case.book, case.goal)
+    };
+    assert_eq!(said(1), Ok(Status::Unknown));
+    assert_eq!(said(2), Ok(Status::Unsolvable));
+}
+
+#[test]
+fn words_of_the_whole_case() {
+    let mut book = Book::new();
+    let goal = formula(&mut book, WHOLE);
+    let imp = |left, right| raw::word(raw::IMPL, left, right);
+    let or = raw::word(raw::OR, 0, 2);
+    let words = [2, 1, imp(0, 1), or, imp(3, 1), imp(4, 1)];
+    assert_eq!((book.words(), goal.index()), (&words[..], 5));
+}
+
+#[test]
+fn names() {
+    let spelled = [
+        (0, "a"),
+        (25, "z"),
+        (26, "ba"),
+        (51, "bz"),
+        (52, "aca"),
+        (78, "aada"),
+    ];
+    for (index, name) in spelled {
+        assert_eq!(quaysaffron::name(index).as_deref(), Ok(name));
+    }
+    assert_eq!(quaysaffron::name(363), Ok("a".repeat(12) + "nz"));
+    assert_eq!(quaysaffron::name(4095).map(|name| name.len()), Ok(158));
+    for index in [4096, usize::MAX] {
+        assert_eq!(quaysaffron::name(index), Err(Refusal::Names { steps: 0 }));
+    }
+}
