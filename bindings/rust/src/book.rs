@@ -30,7 +30,8 @@ impl Formula {
 /// Every function files a word and gives its [`Formula`]; a word that stands there already is not filed again, so building a formula
 /// twice gives the same handle. The words of a book can be named in claims for as long as it stands, on many threads at once.
 ///
-/// Nothing here fails. What has no lawful word is left to the prover, which refuses every claim and status under such a book (of several faults the lowest index is told):
+/// Nothing here fails. What has no lawful word is left to the prover, which refuses every claim and status under such a book, and of
+/// several faults tells the lowest index:
 ///
 /// | What was built | How it is refused |
 /// |---|---|

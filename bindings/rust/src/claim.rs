@@ -87,7 +87,7 @@ impl<'b> Claim<'b> {
     }
 }
 
-/// A count in a house file. One that two bytes do not hold is as bad as the most that they hold.
+/// A count in a house file. One that two bytes do not hold is beyond every file, and so is the most that they hold.
 fn count(number: usize) -> [u8; 2] {
     u16::try_from(number).unwrap_or(u16::MAX).to_le_bytes()
 }

@@ -1,5 +1,5 @@
 //! A found derivation.
-use crate::{raw, Refusal};
+use crate::{raw, Claim, Refusal};
 
 /// A derivation of a claim's goal from its assumptions: all that was found, to be kept or filed.
 ///
@@ -17,19 +17,19 @@ pub struct Derivation {
 }
 
 impl Derivation {
-    /// Keeps what a search left in the lent slices.
+    /// Keeps what the search for a claim left in the lent slices.
     pub(crate) fn kept(
+        claim: &Claim,
         answer: raw::Answer,
         words: &[u32],
         numbers: &[u16],
-        (assumptions, names): (usize, &[u8]),
         room: usize,
     ) -> Derivation {
         Derivation {
             words: words[..answer.formulas].to_vec(),
             numbers: numbers[..answer.terms * raw::NODE_NUMBERS].to_vec(),
-            assumptions,
-            names: names.to_vec(),
+            assumptions: claim.assumed.len(),
+            names: claim.names.clone(),
             answer,
             room,
         }
@@ -120,13 +120,24 @@ impl Derivation {
     pub fn name_text(&self) -> &[u8] {
         &self.names
     }
+
+    /// All but the text limit.
+    fn filed(&self) -> (raw::Answer, usize, &[u8], &[u32], &[u16]) {
+        let Derivation {
+            answer,
+            assumptions,
+            names,
+            words,
+            numbers,
+            room: _,
+        } = self;
+        (*answer, *assumptions, names, words, numbers)
+    }
 }
 
 impl PartialEq for Derivation {
     fn eq(&self, other: &Derivation) -> bool {
-        let counts = |of: &Derivation| (of.answer, of.assumptions);
-        let slices = |of: &Derivation| of.words == other.words && of.numbers == other.numbers;
-        counts(self) == counts(other) && slices(self) && self.names == other.names
+        self.filed() == other.filed()
     }
 }
 

@@ -190,9 +190,8 @@ impl Prover {
     }
 
     fn found(&self, claim: &Claim, answer: raw::Answer) -> Derivation {
-        let names = (claim.assumed.len(), &claim.names[..]);
         let room = self.limits.text.min(Limits::MOST.text);
-        Derivation::kept(answer, &self.words, &self.terms, names, room)
+        Derivation::kept(claim, answer, &self.words, &self.terms, room)
     }
 }
 

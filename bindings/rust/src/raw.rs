@@ -146,7 +146,8 @@ pub const BAD_TERM: usize = 13;
 /// Number 14: the bytes are no house file; [`output`] alone, as its line `refused 14`.
 pub const BAD_FILE: usize = 14;
 
-/// A thread's whole stack with which every call has slack, in bytes. Measured by `bindings/c/stack.c`, not proved.
+/// A thread's whole stack with which every call has slack, in bytes. Measured by `bindings/c/stack.c`, not proved. On a smaller one a
+/// call may overrun the stack, which stops the program as it does in Rust.
 pub const STACK_BYTES: usize = 1_048_576;
 
 /// A word of no kind, which is refused with [`BAD_FORMULA`] wherever it stands.

@@ -62,12 +62,12 @@ pub enum Refusal {
     },
     /// 12: a text is longer than its buffer, or has over 1,024 nodes on a path.
     NoRoom,
-    /// 13: a term node breaks the layout. No [`Derivation`](crate::Derivation) meets it: it stands here for [`raw::text`].
+    /// 13: a term node breaks the layout. Only [`raw::text`] can meet it: the nodes of a [`Derivation`](crate::Derivation) are lawful.
     BadTerm {
         /// The lowest such node, or the node count where the root is not below it.
         place: usize,
     },
-    /// 14: the bytes are no house file. It stands here for what [`output`](crate::output) prints.
+    /// 14: the bytes are no house file. Only [`output`](crate::output) can meet it, and prints it.
     BadFile,
 }
 

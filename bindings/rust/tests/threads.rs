@@ -2,7 +2,7 @@
 mod common;
 
 use common::{examples, lines, Case, Random};
-use quaysaffron::{output, raw, Book, Formula, Limits, Prover};
+use quaysaffron::{output, raw, Limits, Prover};
 use std::sync::Barrier;
 use std::{fs, thread};
 
@@ -24,42 +24,18 @@ fn all_said(cases: &[Case], files: &[Vec<u8>]) -> Vec<String> {
     said
 }
 
-/// Books that go up to the highest level: a chain of conditions, of halves, of alternatives, of alternatives that are given, and of rule 4.
+/// Books that go up to level 63: by conditions, by halves of both kinds, by alternatives that are given, and by rule 4, which passes it;
+/// and one whose text has a path of 1,024 nodes.
 fn deepest() -> Vec<Case> {
-    let chained = |join: fn(&mut Book, Formula, Formula) -> Formula, given: bool| {
-        let mut book = Book::new();
-        let (truth, letter) = (book.truth(), book.atom(0));
-        let first = if given { letter } else { truth };
-        let chain = (0..63).fold(first, |right, _| join(&mut book, letter, right));
-        let assumed = if given {
-            vec![("x".to_string(), chain)]
-        } else {
-            vec![]
-        };
-        let goal = if given { letter } else { chain };
-        Case {
-            book,
-            assumed,
-            goal,
-        }
-    };
-    let nested = |book: &mut Book, left, right| {
-        let inner = book.implies(right, left);
-        book.implies(inner, left)
-    };
+    let chain = |link: &str, last: &str| link.repeat(63) + last;
+    let nested = chain("> > p1 ", "p0") + &" p0".repeat(63);
     vec![
-        chained(Book::implies, false),
-        chained(
-            |book, _, right| {
-                let truth = book.truth();
-                book.and(truth, right)
-            },
-            false,
-        ),
-        chained(Book::or, false),
-        chained(Book::or, true),
-        chained(nested, false),
-        chained(nested, true),
+        Case::new(&[], &chain("> p0 ", "T")),
+        Case::new(&[], &chain("& T ", "T")),
+        Case::new(&[], &chain("| p0 ", "T")),
+        Case::new(&[("x", &chain("| p0 ", "p0"))], "p0"),
+        Case::new(&[("x", &nested)], "p2"),
+        Case::new(&[("x", &("> T ".repeat(1023) + "p0"))], "p0"),
     ]
 }
 
