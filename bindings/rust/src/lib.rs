@@ -56,10 +56,10 @@
 //!
 //! # What it takes
 //!
-//! Nothing panics, on any input, unless memory runs out. Memory is allocated by a book and a claim as they
-//! grow, by a prover when it is made, by a derivation when it is found and written to a `String`, and by [`output`] and [`name`];
-//! [`Derivation::write`] and all of [`raw`] allocate nothing. There is no state between calls and no lock. A thread that calls needs
-//! [`raw::STACK_BYTES`] of stack. The archive that is linked is for x86-64 Linux alone.
+//! Nothing panics, on any input, unless memory runs out. Memory is allocated by a book and a claim as they grow, by a prover when it is
+//! made, by a derivation when it is found and written to a `String`, and by [`output`] and [`name`]; [`Derivation::write`] and all of
+//! [`raw`] allocate nothing. No lock is taken, and nothing is shared between threads but the counter that tells books apart. A thread
+//! that calls needs [`raw::STACK_BYTES`] of stack. The archive that is linked is for x86-64 Linux alone.
 #![deny(unsafe_code)]
 #![deny(missing_docs)]
 

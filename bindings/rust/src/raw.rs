@@ -17,7 +17,7 @@ pub const MOST_NODES: usize = 16_384;
 /// The numbers of a term node: its kind and five fields.
 pub const NODE_NUMBERS: usize = 6;
 /// The most numbers of term nodes that may be lent.
-pub const MOST_NUMBERS: usize = MOST_NODES * NODE_NUMBERS;
+pub const MOST_NUMBERS: usize = 98_304;
 /// The records of the work area, neither more nor fewer.
 pub const WORK_RECORDS: usize = 16_384;
 /// The highest step limit.

@@ -94,8 +94,12 @@ fn bad_assumption() {
         many = many.assume(format!("x{at}"), goal);
     }
     assert!(matches!(many.prove(), Ok(Outcome::Proved(_))));
-    let too_many = many.assume("y", foreign);
-    assert_eq!(too_many.prove(), Err(Refusal::BadAssumption { place: 64 }));
+    let refusal = many.assume("y", foreign).prove().expect_err("too many");
+    assert_eq!(refusal, Refusal::BadAssumption { place: 64 });
+    assert_eq!(
+        refusal.to_string(),
+        "BadAssumption: there are over 64 assumptions"
+    );
 }
 
 #[test]

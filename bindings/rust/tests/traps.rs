@@ -46,33 +46,34 @@ fn folds() {
     assert_eq!(book.not(letters[0]), formula(&mut book, "(> p0 F)"));
 }
 
-/// A handle of another book has an index that this book has too.
+/// The handle's index is one that this book has too.
 #[test]
 fn a_foreign_handle_is_no_formula() {
-    let mut other = Book::new();
-    let foreign = other.truth();
-    let mut book = Book::new();
-    let truth = book.truth();
-    assert_eq!((foreign.index(), foreign == truth), (truth.index(), false));
+    let foreign = Book::new().truth();
     let joins: [fn(&mut Book, Formula, Formula) -> Formula; 3] =
         [Book::and, Book::or, Book::implies];
-    for join in joins {
-        for [left, right] in [[foreign, truth], [truth, foreign]] {
-            let mut book = Book::new();
-            let truth = book.truth();
-            let own = |part| if part == foreign { part } else { truth };
-            let made = join(&mut book, own(left), own(right));
-            let place = made.index();
-            assert_eq!(place, 1);
-            assert_eq!(
-                Claim::new(&book, truth).prove(),
-                Err(Refusal::BadFormula { place })
-            );
-        }
+    for (join, at_left) in joins
+        .into_iter()
+        .flat_map(|join| [(join, true), (join, false)])
+    {
+        let mut book = Book::new();
+        let truth = book.truth();
+        assert_eq!((foreign.index(), foreign == truth), (truth.index(), false));
+        let made = if at_left {
+            join(&mut book, foreign, truth)
+        } else {
+            join(&mut book, truth, foreign)
+        };
+        let place = 1;
+        assert_eq!(made.index(), place);
+        assert_eq!(
+            Claim::new(&book, truth).prove(),
+            Err(Refusal::BadFormula { place })
+        );
     }
 }
 
-/// Other books are no other book's business, and a book that is gone takes its handles with it.
+/// The book of a handle is gone, and no later one is taken for it.
 #[test]
 fn a_later_book_does_not_take_up_handles() {
     let handle = Book::new().truth();
