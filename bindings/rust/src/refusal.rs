@@ -2,6 +2,7 @@
 use crate::raw;
 use std::error::Error;
 use std::fmt;
+use Refusal::*;
 
 /// Why there is no answer: a row of the table of docs/REFERENCE.md, section 3.
 ///
@@ -71,8 +72,6 @@ pub enum Refusal {
     BadFile,
 }
 
-use Refusal::*;
-
 impl Refusal {
     /// The row of a number that a call told. That no call tells a number outside the table is proved, so the last row takes the rest.
     pub(crate) fn told(number: usize, place: usize, steps: usize) -> Refusal {
@@ -136,43 +135,42 @@ impl Refusal {
             _ => None,
         }
     }
-}
 
-/// The refusal in words, in one line without its number.
-impl fmt::Display for Refusal {
-    fn fmt(&self, f: &mut fmt::Formatter) -> fmt::Result {
+    fn words(&self) -> &'static str {
         match self {
-            Sizes => write!(f, "Sizes: something lent does not have its size"),
-            BadFormula { place } => write!(f, "BadFormula: word {place} breaks the layout"),
-            BadAssumption { place: raw::MOST_ASSUMPTIONS } => {
-                write!(f, "BadAssumption: there are over 64 assumptions")
+            Sizes => "Sizes: something lent does not have its size",
+            BadFormula { .. } => "BadFormula: a word breaks the layout",
+            BadAssumption { .. } => {
+                "BadAssumption: a formula is not in the book, or there are over 64"
             }
-            BadAssumption { place } => {
-                write!(f, "BadAssumption: the formula of assumption {place} is not in the book")
+            BadNames { .. } => {
+                "BadNames: a name does not have 1 to 32 bytes from A-Z, a-z, 0-9 and _, \
+                 or repeats an earlier one"
             }
-            BadNames { place } => write!(
-                f,
-                "BadNames: name {place} does not have 1 to 32 bytes from A-Z, a-z, 0-9 and _, or repeats an earlier one"
-            ),
-            BadGoal => write!(f, "BadGoal: the goal's formula is not in the book"),
-            Steps { steps } => write!(f, "Steps: the search would pass {steps} steps"),
-            Names { steps } => passed(f, "Names", "4,096 generated names", steps),
-            Formulas { steps } => passed(f, "Formulas", "the lent words", steps),
-            Terms { steps } => passed(f, "Terms", "the lent nodes", steps),
-            Contexts { steps } => passed(f, "Contexts", "256 records in a sequent", steps),
-            Levels { steps } => passed(f, "Levels", "level 63", steps),
-            NoRoom => write!(f, "NoRoom: the text would pass its buffer, or 1,024 nodes on a path"),
-            BadTerm { place } => write!(f, "BadTerm: node {place} breaks the layout"),
-            BadFile => write!(f, "BadFile: the bytes are no house file"),
+            BadGoal => "BadGoal: the goal's formula is not in the book",
+            Steps { .. } => "Steps: the search would pass the step limit",
+            Names { .. } => "Names: 4,096 generated names would be passed",
+            Formulas { .. } => "Formulas: the search would pass the lent words",
+            Terms { .. } => "Terms: the search would pass the lent nodes",
+            Contexts { .. } => "Contexts: the search would pass 256 records in a sequent",
+            Levels { .. } => "Levels: the search would pass level 63",
+            NoRoom => "NoRoom: the text would pass its buffer, or 1,024 nodes on a path",
+            BadTerm { .. } => "BadTerm: a node breaks the layout",
+            BadFile => "BadFile: the bytes are no house file",
         }
     }
 }
 
-fn passed(f: &mut fmt::Formatter, name: &str, limit: &str, steps: &usize) -> fmt::Result {
-    write!(
-        f,
-        "{name}: the search would pass {limit}, after {steps} steps"
-    )
+/// The refusal in words: its name, what is wrong, and its place or steps.
+impl fmt::Display for Refusal {
+    fn fmt(&self, f: &mut fmt::Formatter) -> fmt::Result {
+        f.write_str(self.words())?;
+        match (self.place(), self.steps()) {
+            (Some(place), _) => write!(f, ", at place {place}"),
+            (_, Some(steps)) => write!(f, ", after {steps} steps"),
+            _ => Ok(()),
+        }
+    }
 }
 
 impl Error for Refusal {}

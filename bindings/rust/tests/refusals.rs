@@ -94,12 +94,8 @@ fn bad_assumption() {
         many = many.assume(format!("x{at}"), goal);
     }
     assert!(matches!(many.prove(), Ok(Outcome::Proved(_))));
-    let refusal = many.assume("y", foreign).prove().expect_err("too many");
-    assert_eq!(refusal, Refusal::BadAssumption { place: 64 });
-    assert_eq!(
-        refusal.to_string(),
-        "BadAssumption: there are over 64 assumptions"
-    );
+    let too_many = many.assume("y", foreign);
+    assert_eq!(too_many.prove(), Err(Refusal::BadAssumption { place: 64 }));
 }
 
 #[test]
@@ -353,8 +349,11 @@ fn rows() {
         let (words, debug) = (row.to_string(), format!("{row:?}"));
         let name = debug.split(' ').next().expect("a name");
         assert!(words.starts_with(&format!("{name}: ")), "{words}");
-        for number in [place, steps].into_iter().flatten() {
-            assert!(words.contains(&number.to_string()), "{words}");
-        }
+        assert_eq!(words.ends_with(", at place 7"), place.is_some(), "{words}");
+        assert_eq!(
+            words.ends_with(", after 9 steps"),
+            steps.is_some(),
+            "{words}"
+        );
     }
 }
