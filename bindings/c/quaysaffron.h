@@ -11,8 +11,8 @@
  *   as many elements as its length says, for the whole call. Lengths count elements, not bytes.
  * - Overlap. What a call may write (a pointer without const, and answer, size, place and out) overlaps nothing else that it is lent.
  * - Contents. Any: what is lent as room need not be cleared, and what is given wrong is refused.
- * - Threads. There is no state between calls, no heap, no lock, and no C function is called. Calls on buffers that do not overlap may run
- *   at once on any threads.
+ * - Threads. There is no state between calls, no heap and no lock, and no C function is called but memcpy and memset, which the compiler
+ *   puts in. Calls on buffers that do not overlap may run at once on any threads.
  * - Stack. QUAYSAFFRON_STACK_BYTES below; a thread with less room may overrun it.
  *
  * Nothing panics, unwinds or exits. Link libquaysaffron_c.a, which is for x86-64 Linux alone; on another machine run the program ./quay,
@@ -111,14 +111,14 @@ extern "C" {
 #define QUAYSAFFRON_BAD_TERM 13 /* place: the lowest node that breaks the layout, or the node count where the root is not below it */
 #define QUAYSAFFRON_BAD_FILE 14 /* the bytes are no house file; quaysaffron_output alone, as its line `refused 14` */
 
-/* The stack that a call takes, in bytes and rounded up. Measured with stack.c, not proved; all else of the program comes on top. */
+/* The stack that a call takes at most, in bytes and rounded up: measured by stack.c, not proved. */
 #define QUAYSAFFRON_PROVE_STACK_BYTES 131072
 #define QUAYSAFFRON_STATUS_STACK_BYTES 131072
-#define QUAYSAFFRON_TEXT_STACK_BYTES 262144
-#define QUAYSAFFRON_OUTPUT_STACK_BYTES 393216
+#define QUAYSAFFRON_TEXT_STACK_BYTES 458752
+#define QUAYSAFFRON_OUTPUT_STACK_BYTES 655360
 #define QUAYSAFFRON_OTHER_STACK_BYTES 4096 /* the name and the two tests */
 /* A thread's whole stack with which every call has slack. */
-#define QUAYSAFFRON_STACK_BYTES 524288
+#define QUAYSAFFRON_STACK_BYTES 1048576
 
 /* A pointer for an empty slice: non-null, aligned for every type of this header, never followed. */
 #define QUAYSAFFRON_EMPTY(type) ((type *)(uintptr_t)sizeof(uint64_t))

@@ -1,0 +1,384 @@
+/* Refusals 1 to 5 and shortages 6 to 11 through the search and the status. */
+#include "checks.h"
+
+#include <string.h>
+
+/* Who is asked. */
+enum { PROVE = 1, STATUS_TOO = 2 };
+
+/* What must come back. */
+struct expected {
+    size_t kind;
+    size_t number;
+    size_t place;
+    size_t steps;
+};
+
+static const uint8_t junks[] = {0, 0x01, 0xa5, 0xff};
+
+enum { JUNKS = sizeof junks, SPARE_WORDS = 64, SPARE_NODES = 64 };
+
+static struct book *start(struct checks *checks)
+{
+    memset(&checks->book, 0, sizeof checks->book);
+    return &checks->book;
+}
+
+/* What the book needs and some more. */
+static struct search ample(struct checks *checks)
+{
+    struct slices *room = &checks->room.lent;
+    struct book *book = &checks->book;
+    struct search lent = {0};
+    lent.words = room->words;
+    lent.words_length = book->count + SPARE_WORDS;
+    lent.count = book->count;
+    lent.assumed = book->assumed;
+    lent.assumed_length = book->assumptions;
+    lent.names = book->names;
+    lent.names_length = book->names_length;
+    lent.goal = book->goal;
+    lent.terms = room->terms;
+    lent.terms_length = SPARE_NODES * QUAYSAFFRON_NODE_NUMBERS;
+    lent.work = room->work;
+    lent.work_length = QUAYSAFFRON_WORK_RECORDS;
+    lent.steps = QUAYSAFFRON_MOST_STEPS;
+    return lent;
+}
+
+static bool as_expected(const quaysaffron_answer *answer, struct expected expected)
+{
+    bool verdict = QUAYSAFFRON_SOLVABLE <= expected.kind;
+    return answer->kind == expected.kind && answer->number == expected.number && answer->place == expected.place
+        && (verdict || answer->steps == expected.steps);
+}
+
+/* Asks over slices that are full of junk behind the book's words. */
+static quaysaffron_answer ask_over(struct checks *checks, const struct search *lent, uint8_t junk, int who, bool *kept)
+{
+    struct room *room = &checks->room;
+    fill(room, junk);
+    memcpy(room->lent.words, checks->book.words, checks->book.count * sizeof(uint32_t));
+    return who == PROVE ? room_prove(room, lent, kept) : room_status(room, lent, kept);
+}
+
+/* What the status says of a book without free symbols where the search says this. */
+static struct expected settled(struct expected expected)
+{
+    if (expected.kind == QUAYSAFFRON_PROVED) {
+        expected.kind = QUAYSAFFRON_SOLVABLE;
+    } else if (expected.kind == QUAYSAFFRON_UNPROVABLE) {
+        expected.kind = QUAYSAFFRON_UNSOLVABLE;
+    }
+    return expected;
+}
+
+static void expect(struct checks *checks, int who, const struct search *lent, const char *what, struct expected expected)
+{
+    for (size_t i = 0; i < JUNKS; i++) {
+        bool kept;
+        quaysaffron_answer answer = ask_over(checks, lent, junks[i], PROVE, &kept);
+        check(checks, kept && as_expected(&answer, expected), what);
+        if (who == STATUS_TOO) {
+            answer = ask_over(checks, lent, junks[i], STATUS_TOO, &kept);
+            check(checks, kept && as_expected(&answer, settled(expected)), what);
+        }
+    }
+}
+
+static struct expected refused(size_t number, size_t place)
+{
+    struct expected expected = {QUAYSAFFRON_REFUSED, number, place, 0};
+    return expected;
+}
+
+static struct expected lacking(size_t number, size_t steps)
+{
+    struct expected expected = {QUAYSAFFRON_SHORT, number, 0, steps};
+    return expected;
+}
+
+static struct expected proved(size_t steps)
+{
+    struct expected expected = {QUAYSAFFRON_PROVED, 0, 0, steps};
+    return expected;
+}
+
+static struct expected unprovable(size_t steps)
+{
+    struct expected expected = {QUAYSAFFRON_UNPROVABLE, 0, 0, steps};
+    return expected;
+}
+
+/* p0->p0: 5 steps, a name, 2 nodes. */
+static void lay_identity(struct checks *checks)
+{
+    struct book *book = start(checks);
+    size_t p = atom(book, 0);
+    book->goal = join(book, QUAYSAFFRON_IMPL, p, p);
+}
+
+static void lengths_of_words(struct checks *checks)
+{
+    struct search lent;
+    struct expected sizes = refused(QUAYSAFFRON_SIZES, 0);
+    lay_identity(checks);
+    lent = ample(checks);
+    lent.words_length = lent.count - 1;
+    expect(checks, STATUS_TOO, &lent, "1: a word counted that is not there", sizes);
+    lent.words_length = 0;
+    lent.words = QUAYSAFFRON_EMPTY(uint32_t);
+    expect(checks, STATUS_TOO, &lent, "1: no word lent", sizes);
+    lent = ample(checks);
+    lent.count = SIZE_MAX;
+    expect(checks, STATUS_TOO, &lent, "1: the largest count", sizes);
+    lent = ample(checks);
+    lent.words_length = QUAYSAFFRON_MOST_WORDS + 1;
+    expect(checks, STATUS_TOO, &lent, "1: a word too many", sizes);
+    lent.words_length = QUAYSAFFRON_MOST_WORDS;
+    expect(checks, STATUS_TOO, &lent, "the most words", proved(5));
+    lent.words_length = lent.count;
+    expect(checks, STATUS_TOO, &lent, "no more words than are given", proved(5));
+}
+
+static void lengths_of_terms(struct checks *checks)
+{
+    static const size_t wrong[] = {1, 5, 7, 11, QUAYSAFFRON_MOST_NUMBERS - 1, QUAYSAFFRON_MOST_NUMBERS + 1,
+                                   QUAYSAFFRON_MOST_NUMBERS + QUAYSAFFRON_NODE_NUMBERS};
+    struct search lent;
+    lay_identity(checks);
+    lent = ample(checks);
+    for (size_t i = 0; i < sizeof wrong / sizeof wrong[0]; i++) {
+        lent.terms_length = wrong[i];
+        expect(checks, STATUS_TOO, &lent, "1: no whole nodes, or a node too many", refused(QUAYSAFFRON_SIZES, 0));
+    }
+    lent.terms_length = QUAYSAFFRON_MOST_NUMBERS;
+    expect(checks, STATUS_TOO, &lent, "the most nodes", proved(5));
+}
+
+static void lengths_of_work(struct checks *checks)
+{
+    static const size_t wrong[] = {0, 1, QUAYSAFFRON_WORK_RECORDS - 1, QUAYSAFFRON_WORK_RECORDS + 1};
+    struct search lent;
+    lay_identity(checks);
+    lent = ample(checks);
+    for (size_t i = 0; i < sizeof wrong / sizeof wrong[0]; i++) {
+        lent.work_length = wrong[i];
+        lent.work = wrong[i] == 0 ? QUAYSAFFRON_EMPTY(quaysaffron_record) : checks->room.lent.work;
+        expect(checks, STATUS_TOO, &lent, "1: the work area", refused(QUAYSAFFRON_SIZES, 0));
+    }
+    lent = ample(checks);
+    lent.steps = QUAYSAFFRON_MOST_STEPS + 1;
+    expect(checks, STATUS_TOO, &lent, "1: a step too many", refused(QUAYSAFFRON_SIZES, 0));
+    lent.steps = SIZE_MAX;
+    expect(checks, STATUS_TOO, &lent, "1: the largest step limit", refused(QUAYSAFFRON_SIZES, 0));
+}
+
+/* Every slice empty but the work area, and then that too. */
+static void nothing_lent(struct checks *checks)
+{
+    struct search lent = {0};
+    start(checks);
+    lent.words = QUAYSAFFRON_EMPTY(uint32_t);
+    lent.assumed = QUAYSAFFRON_EMPTY(uint16_t);
+    lent.names = QUAYSAFFRON_EMPTY(uint8_t);
+    lent.terms = QUAYSAFFRON_EMPTY(uint16_t);
+    lent.work = checks->room.lent.work;
+    lent.work_length = QUAYSAFFRON_WORK_RECORDS;
+    expect(checks, STATUS_TOO, &lent, "5: no formula", refused(QUAYSAFFRON_BAD_GOAL, 0));
+    lent.work = QUAYSAFFRON_EMPTY(quaysaffron_record);
+    lent.work_length = 0;
+    expect(checks, STATUS_TOO, &lent, "1: nothing lent", refused(QUAYSAFFRON_SIZES, 0));
+}
+
+/* p0 and then words of which the first breaks the layout; words behind the count may. */
+static void words(struct checks *checks)
+{
+    static const uint32_t wrong[] = {QUAYSAFFRON_NO_WORD, 8, 0x10, 0x40000, 0x11, 0x40002, 0x40006, 0x40007, 0x13, 0x40003,
+                                     0x14, 0x40004, 0x15, 0x40005, UINT32_MAX};
+    struct search lent;
+    for (size_t i = 0; i < sizeof wrong / sizeof wrong[0]; i++) {
+        struct book *book = start(checks);
+        atom(book, 0);
+        add(book, wrong[i]);
+        add(book, QUAYSAFFRON_NO_WORD);
+        lent = ample(checks);
+        expect(checks, STATUS_TOO, &lent, "2: the lowest of two words", refused(QUAYSAFFRON_BAD_FORMULA, 1));
+        lent.count = 1;
+        expect(checks, PROVE, &lent, "a word behind the count", unprovable(3));
+    }
+    start(checks)->goal = join(&checks->book, QUAYSAFFRON_AND, 0, 0);
+    lent = ample(checks);
+    expect(checks, STATUS_TOO, &lent, "2: a word that is its own part", refused(QUAYSAFFRON_BAD_FORMULA, 0));
+}
+
+static void assumptions(struct checks *checks)
+{
+    struct book *book = start(checks);
+    struct search lent;
+    book->goal = atom(book, 0);
+    assume_next(book, 0);
+    assume_next(book, 1);
+    assume_next(book, UINT16_MAX);
+    lent = ample(checks);
+    expect(checks, PROVE, &lent, "3: an index that is the count", refused(QUAYSAFFRON_BAD_ASSUMPTION, 1));
+    for (size_t i = book->assumptions; i < QUAYSAFFRON_MOST_ASSUMPTIONS + 1; i++) {
+        assume_next(book, 0);
+    }
+    lent = ample(checks);
+    expect(checks, PROVE, &lent, "3: 65 assumptions, before one out of range", refused(QUAYSAFFRON_BAD_ASSUMPTION, 64));
+    book->assumed[1] = 0;
+    book->assumed[2] = 0;
+    lent.assumed_length = QUAYSAFFRON_MOST_ASSUMPTIONS;
+    lent.names_length -= 4;
+    lent.terms_length = QUAYSAFFRON_MOST_ASSUMPTIONS * QUAYSAFFRON_NODE_NUMBERS;
+    expect(checks, PROVE, &lent, "64 assumptions", proved(67));
+}
+
+/* A text of names that is refused at a place, for so many assumptions. */
+struct names {
+    const char *what;
+    const char *text;
+    size_t length;
+    size_t assumptions;
+    size_t place;
+};
+
+static const struct names wrong_names[] = {
+    {"4: no text", "", 0, 1, 0},
+    {"4: an empty name", "\0", 1, 1, 0},
+    {"4: a cut name", "\2x", 2, 1, 0},
+    {"4: a byte that no name has", "\1x\3a-b", 6, 2, 1},
+    {"4: a zero byte", "\2x\0", 3, 1, 0},
+    {"4: 33 bytes", "\41xxxxxxxxxxxxxxxxxxxxxxxxxxxxxxxxx", 34, 1, 0},
+    {"4: a repeated name", "\1x\1y\1x", 6, 3, 2},
+    {"4: a name too few", "\1x\1y", 4, 3, 2},
+    {"4: a name too many", "\1x\1y", 4, 1, 1},
+    {"4: text behind the last name", "\1x\1", 3, 1, 1},
+    {"4: text without assumptions", "\1x", 2, 0, 0},
+};
+
+static void names(struct checks *checks)
+{
+    struct book *book = start(checks);
+    struct search lent;
+    book->goal = atom(book, 0);
+    lent = ample(checks);
+    for (size_t i = 0; i < sizeof wrong_names / sizeof wrong_names[0]; i++) {
+        lent.assumed_length = wrong_names[i].assumptions;
+        lent.names = (const uint8_t *)wrong_names[i].text;
+        lent.names_length = wrong_names[i].length;
+        expect(checks, PROVE, &lent, wrong_names[i].what, refused(QUAYSAFFRON_BAD_NAMES, wrong_names[i].place));
+    }
+    lent.assumed_length = 2;
+    lent.names = (const uint8_t *)"\40Zzxxxxxxxxxxxxxxxxxxxxxxxxxxxx09\1_";
+    lent.names_length = 35;
+    expect(checks, PROVE, &lent, "names of 32 bytes and of 1", proved(5));
+}
+
+static void goals(struct checks *checks)
+{
+    struct search lent;
+    lay_identity(checks);
+    lent = ample(checks);
+    lent.goal = lent.count;
+    expect(checks, STATUS_TOO, &lent, "5: the goal is the count", refused(QUAYSAFFRON_BAD_GOAL, 0));
+    lent.goal = SIZE_MAX;
+    expect(checks, STATUS_TOO, &lent, "5: the largest goal", refused(QUAYSAFFRON_BAD_GOAL, 0));
+    /* an index whose low half is a lawful one */
+    lent.goal = (size_t)1 << 32;
+    expect(checks, STATUS_TOO, &lent, "5: a goal of over 32 bits", refused(QUAYSAFFRON_BAD_GOAL, 0));
+}
+
+static void steps_and_terms(struct checks *checks)
+{
+    struct search lent;
+    lay_identity(checks);
+    lent = ample(checks);
+    for (lent.steps = 0; lent.steps < 5; lent.steps++) {
+        expect(checks, STATUS_TOO, &lent, "6: too few steps", lacking(QUAYSAFFRON_STEPS, lent.steps));
+    }
+    expect(checks, STATUS_TOO, &lent, "as many steps as are needed", proved(5));
+    lent.terms = QUAYSAFFRON_EMPTY(uint16_t);
+    lent.terms_length = 0;
+    expect(checks, STATUS_TOO, &lent, "9: no node", lacking(QUAYSAFFRON_TERMS, 1));
+    lent.terms = checks->room.lent.terms;
+    lent.terms_length = QUAYSAFFRON_NODE_NUMBERS;
+    expect(checks, STATUS_TOO, &lent, "9: a node too few", lacking(QUAYSAFFRON_TERMS, 5));
+    lent.terms_length = 2 * QUAYSAFFRON_NODE_NUMBERS;
+    expect(checks, STATUS_TOO, &lent, "as many nodes as are needed", proved(5));
+}
+
+static void generated_names(struct checks *checks)
+{
+    for (size_t more = 0; more < 2; more++) {
+        struct book *book = start(checks);
+        size_t p = atom(book, 0);
+        size_t leaf = join(book, QUAYSAFFRON_IMPL, p, atom(book, 1));
+        struct search lent;
+        book->goal = disjunction(book, QUAYSAFFRON_LAST_INDEX + 1 + more, leaf);
+        lent = ample(checks);
+        if (more == 0) {
+            expect(checks, STATUS_TOO, &lent, "as many names as there are", unprovable(32765));
+        } else {
+            expect(checks, STATUS_TOO, &lent, "7: a name too few", lacking(QUAYSAFFRON_NAMES, 32769));
+        }
+    }
+}
+
+/* ((p0&p1)->p2)->p2 makes 2 words. */
+static void formulas(struct checks *checks)
+{
+    struct book *book = start(checks);
+    size_t p = atom(book, 0);
+    size_t both = join(book, QUAYSAFFRON_AND, p, atom(book, 1));
+    size_t q = atom(book, 2);
+    struct search lent;
+    book->goal = join(book, QUAYSAFFRON_IMPL, join(book, QUAYSAFFRON_IMPL, both, q), q);
+    lent = ample(checks);
+    for (size_t more = 0; more < 2; more++) {
+        lent.words_length = lent.count + more;
+        expect(checks, STATUS_TOO, &lent, "8: too few words", lacking(QUAYSAFFRON_FORMULAS, 3));
+    }
+    lent.words_length = lent.count + 2;
+    expect(checks, STATUS_TOO, &lent, "as many words as are needed", unprovable(6));
+}
+
+static void contexts_and_levels(struct checks *checks)
+{
+    for (size_t more = 0; more < 2; more++) {
+        struct book *book = start(checks);
+        size_t all = balanced(book, QUAYSAFFRON_AND, 0, QUAYSAFFRON_MOST_RECORDS + more);
+        struct search lent;
+        book->goal = join(book, QUAYSAFFRON_IMPL, all, atom(book, QUAYSAFFRON_FIRST_FREE_SYMBOL - 1));
+        lent = ample(checks);
+        lent.terms_length = 1024 * QUAYSAFFRON_NODE_NUMBERS;
+        expect(checks, STATUS_TOO, &lent, "10: 256 records and one more",
+               more == 0 ? unprovable(515) : lacking(QUAYSAFFRON_CONTEXTS, 513));
+    }
+    for (size_t more = 0; more < 2; more++) {
+        struct book *book = start(checks);
+        size_t p = atom(book, 0);
+        struct search lent;
+        book->goal = chain(book, QUAYSAFFRON_IMPL, p, QUAYSAFFRON_HIGHEST_LEVEL + more, p);
+        lent = ample(checks);
+        lent.terms_length = 128 * QUAYSAFFRON_NODE_NUMBERS;
+        expect(checks, STATUS_TOO, &lent, "11: 63 levels and one more", more == 0 ? proved(129) : lacking(QUAYSAFFRON_LEVELS, 64));
+    }
+}
+
+void check_searches(struct checks *checks)
+{
+    lengths_of_words(checks);
+    lengths_of_terms(checks);
+    lengths_of_work(checks);
+    nothing_lent(checks);
+    words(checks);
+    assumptions(checks);
+    names(checks);
+    goals(checks);
+    steps_and_terms(checks);
+    generated_names(checks);
+    formulas(checks);
+    contexts_and_levels(checks);
+}

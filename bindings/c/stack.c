@@ -1,0 +1,409 @@
+/* Measures the stack that each call takes: it runs on a thread whose stack is filled with a pattern, and the bytes from the deepest one
+ * that no longer holds it are counted, less those of a thread that does nothing. What is lent stands elsewhere.
+ *
+ * The stack of a search grows with its levels, that of a text with the nodes on a path, so each way to go up is taken to its limit.
+ * A line for each call tells its maximum and the way that took it; a call that takes more than the header says fails. */
+#define _POSIX_C_SOURCE 200809L
+
+#include "books.h"
+
+#include <pthread.h>
+#include <stdio.h>
+#include <stdlib.h>
+#include <string.h>
+
+enum { STACK_BYTES = 4 << 20, ALIGNMENT = 4096, PATTERN = 0x5a };
+enum { LEVELS = QUAYSAFFRON_HIGHEST_LEVEL, PATH = QUAYSAFFRON_MOST_PATH, TEXT_BYTES = 1 << 20 };
+
+static struct book book;
+static uint32_t words[QUAYSAFFRON_MOST_WORDS];
+static uint16_t terms[QUAYSAFFRON_MOST_NUMBERS];
+static quaysaffron_record work[QUAYSAFFRON_WORK_RECORDS];
+static uint8_t text[TEXT_BYTES], file[2 * QUAYSAFFRON_MOST_FILE_BYTES], out[QUAYSAFFRON_OUTPUT_BYTES];
+static size_t file_length, nodes, number;
+static uint8_t *stack;
+static int failed;
+
+/* A call, its largest measure so far, and what the header says. */
+struct call {
+    const char *name;
+    size_t bytes;
+    const char *way;
+    size_t told;
+};
+
+static void *do_nothing(void *argument)
+{
+    return argument;
+}
+
+/* The bytes of stack that a thread takes which does this. */
+static size_t taken(void *(*run)(void *))
+{
+    pthread_attr_t attributes;
+    pthread_t thread;
+    size_t untouched = 0;
+    memset(stack, PATTERN, STACK_BYTES);
+    if (pthread_attr_init(&attributes) != 0 || pthread_attr_setstack(&attributes, stack, STACK_BYTES) != 0
+        || pthread_create(&thread, &attributes, run, NULL) != 0 || pthread_join(thread, NULL) != 0) {
+        fputs("no thread\n", stderr);
+        exit(1);
+    }
+    pthread_attr_destroy(&attributes);
+    while (untouched < STACK_BYTES && stack[untouched] == PATTERN) {
+        untouched++;
+    }
+    return STACK_BYTES - untouched;
+}
+
+/* Measures one way; a call that ends in another number than the way leads to does not count. */
+static void measure(struct call *call, const char *way, void *(*run)(void *), size_t expected)
+{
+    size_t with = taken(run), without = taken(do_nothing);
+    size_t bytes = without < with ? with - without : 0;
+    if (number != expected) {
+        printf("%s, %s: number %zu, not %zu\n", call->name, way, number, expected);
+        failed = 1;
+    }
+    if (call->bytes <= bytes) {
+        call->bytes = bytes;
+        call->way = way;
+    }
+}
+
+static void *run_prove(void *argument)
+{
+    quaysaffron_answer answer;
+    number = quaysaffron_prove(words, QUAYSAFFRON_MOST_WORDS, book.count, book.assumed, book.assumptions, book.names, book.names_length,
+                               book.goal, terms, QUAYSAFFRON_MOST_NUMBERS, work, QUAYSAFFRON_WORK_RECORDS, QUAYSAFFRON_MOST_STEPS,
+                               &answer);
+    return argument;
+}
+
+static void *run_status(void *argument)
+{
+    quaysaffron_answer answer;
+    number = quaysaffron_status(words, QUAYSAFFRON_MOST_WORDS, book.count, book.goal, terms, QUAYSAFFRON_MOST_NUMBERS, work,
+                                QUAYSAFFRON_WORK_RECORDS, QUAYSAFFRON_MOST_STEPS, &answer);
+    return argument;
+}
+
+static void *run_text(void *argument)
+{
+    size_t size, place;
+    number = quaysaffron_text(words, QUAYSAFFRON_MOST_WORDS, book.count, book.assumptions, book.names, book.names_length, terms,
+                              QUAYSAFFRON_MOST_NUMBERS, nodes, nodes - 1, text, TEXT_BYTES, &size, &place);
+    return argument;
+}
+
+static void *run_output(void *argument)
+{
+    number = printed_refusal(out, quaysaffron_output(file, file_length, out));
+    return argument;
+}
+
+static void *run_name(void *argument)
+{
+    size_t size;
+    number = quaysaffron_name(QUAYSAFFRON_LAST_INDEX, text, TEXT_BYTES, &size);
+    return argument;
+}
+
+static void *run_test_words(void *argument)
+{
+    size_t place;
+    number = quaysaffron_test_words(words, QUAYSAFFRON_MOST_WORDS, book.count, &place);
+    return argument;
+}
+
+static void *run_test_names(void *argument)
+{
+    size_t place;
+    number = quaysaffron_test_names(book.names, book.names_length, book.assumptions, &place);
+    return argument;
+}
+
+/* The ways up of a goal alone, each over `levels` levels. A symbol from 8,192 up makes the status search a second time. */
+static void goal_implications(size_t levels, size_t symbol)
+{
+    size_t a = atom(&book, symbol);
+    book.goal = chain(&book, QUAYSAFFRON_IMPL, a, levels, a);
+}
+
+static void goal_conjunctions(size_t levels, size_t symbol)
+{
+    size_t t = truth(&book), a = atom(&book, symbol);
+    book.goal = left_chain(&book, QUAYSAFFRON_AND, join(&book, QUAYSAFFRON_IMPL, a, a), levels - 1, t);
+}
+
+static void goal_disjunctions(size_t levels, size_t symbol)
+{
+    size_t a = atom(&book, symbol);
+    book.goal = chain(&book, QUAYSAFFRON_OR, a, levels, a);
+}
+
+static void goal_left_disjunctions(size_t levels, size_t symbol)
+{
+    size_t a = atom(&book, symbol);
+    book.goal = left_chain(&book, QUAYSAFFRON_OR, a, levels, a);
+}
+
+/* The ways up of what stands on the left, as one formula that is to be supposed; the goal is another. */
+static size_t left_disjunctions(size_t levels, size_t symbol)
+{
+    book.goal = atom(&book, symbol);
+    return chain(&book, QUAYSAFFRON_OR, book.goal, levels, book.goal);
+}
+
+/* ((p->p)->..((p->p)->q)): rule 4's second premise. The first one takes two levels above each. */
+static size_t second_premises(size_t levels, size_t symbol)
+{
+    size_t p = atom(&book, symbol + 1);
+    size_t identity = join(&book, QUAYSAFFRON_IMPL, p, p);
+    book.goal = atom(&book, symbol);
+    return chain(&book, QUAYSAFFRON_IMPL, identity, levels - 1, book.goal);
+}
+
+/* (a->g1)->g0, (a->g2)->g1, ..: rule 4's first premise, which goes up two levels each time. The last g stands there too. A level that is
+ * left over goes to an implication. */
+static size_t first_premises(size_t levels, size_t symbol)
+{
+    size_t a = atom(&book, symbol), last = atom(&book, symbol + 1), all = last;
+    for (size_t i = 0; i < levels / 2; i++) {
+        size_t next = atom(&book, symbol + 2 + i);
+        size_t premise = join(&book, QUAYSAFFRON_IMPL, a, last);
+        size_t nested = join(&book, QUAYSAFFRON_IMPL, premise, next);
+        all = join(&book, QUAYSAFFRON_AND, all, nested);
+        last = next;
+    }
+    book.goal = levels % 2 == 0 ? last : join(&book, QUAYSAFFRON_IMPL, a, last);
+    return all;
+}
+
+/* Disjunctions as the goal, and at the last two levels rule 4's first premise. */
+static size_t first_premise_last(size_t levels, size_t symbol)
+{
+    size_t a = atom(&book, symbol), b = atom(&book, symbol + 1), f = falsity(&book);
+    book.goal = left_chain(&book, QUAYSAFFRON_OR, b, levels - 2, f);
+    return join(&book, QUAYSAFFRON_IMPL, join(&book, QUAYSAFFRON_IMPL, a, b), f);
+}
+
+/* A disjunction on the left, and in its last branch one as the goal. */
+static size_t both_disjunctions(size_t levels, size_t symbol)
+{
+    size_t a = atom(&book, symbol);
+    size_t left = chain(&book, QUAYSAFFRON_OR, a, levels / 2, a);
+    book.goal = chain(&book, QUAYSAFFRON_OR, atom(&book, symbol + 1), levels - levels / 2, a);
+    return left;
+}
+
+typedef void goal_way(size_t levels, size_t symbol);
+typedef size_t left_way(size_t levels, size_t symbol);
+
+struct way {
+    const char *name;
+    goal_way *goal;
+    left_way *left;
+};
+
+static const struct way ways[] = {
+    {"the goal an implication", goal_implications, NULL},
+    {"the goal a conjunction", goal_conjunctions, NULL},
+    {"the goal a disjunction, right halves", goal_disjunctions, NULL},
+    {"the goal a disjunction, left halves", goal_left_disjunctions, NULL},
+    {"a disjunction on the left", NULL, left_disjunctions},
+    {"rule 4, second premise", NULL, second_premises},
+    {"rule 4, first premise", NULL, first_premises},
+    {"disjunctions on both sides", NULL, both_disjunctions},
+    {"the goal a disjunction, then rule 4", NULL, first_premise_last},
+};
+
+enum { WAYS = sizeof ways / sizeof ways[0] };
+
+/* Lays the book of a way: what it supposes is an assumption, or else the left of an implication, which takes a level. */
+static void lay_way(const struct way *way, size_t symbol, bool assumed, size_t levels)
+{
+    size_t left;
+    memset(&book, 0, sizeof book);
+    if (way->goal != NULL) {
+        way->goal(levels, symbol);
+    } else if (assumed) {
+        assume(&book, "x", way->left(levels, symbol));
+    } else {
+        left = way->left(levels - 1, symbol);
+        book.goal = join(&book, QUAYSAFFRON_IMPL, left, book.goal);
+    }
+    memcpy(words, book.words, sizeof words);
+    file_length = house_file(&book, file);
+}
+
+/* Each way up to the highest level; and one level more, which is refused once the stack is as deep as it gets. */
+static void measure_levels(struct call *call, void *(*run)(void *), size_t symbol, bool assumed)
+{
+    for (size_t i = 0; i < WAYS; i++) {
+        lay_way(&ways[i], symbol, assumed, LEVELS);
+        measure(call, ways[i].name, run, 0);
+    }
+    for (size_t i = 0; i < WAYS; i++) {
+        lay_way(&ways[i], symbol, assumed, LEVELS + 1);
+        measure(call, ways[i].name, run, QUAYSAFFRON_LEVELS);
+    }
+}
+
+static void add_node(size_t kind, const uint16_t fields[QUAYSAFFRON_NODE_NUMBERS - 1])
+{
+    uint16_t *node = terms + QUAYSAFFRON_NODE_NUMBERS * nodes++;
+    node[0] = (uint16_t)kind;
+    memcpy(node + 1, fields, (QUAYSAFFRON_NODE_NUMBERS - 1) * sizeof *fields);
+}
+
+/* Where a kind of node has its children: the path goes on by one of them, the others are node 0. */
+struct child {
+    const char *name;
+    size_t kind;
+    size_t field;
+};
+
+static const struct child children[] = {
+    {"Pair, first", QUAYSAFFRON_PAIR, 0},
+    {"Pair, second", QUAYSAFFRON_PAIR, 1},
+    {"ProjectFst", QUAYSAFFRON_PROJECT_FST, 0},
+    {"ProjectSnd", QUAYSAFFRON_PROJECT_SND, 0},
+    {"Function", QUAYSAFFRON_FUNCTION, 1},
+    {"Application, function", QUAYSAFFRON_APPLICATION, 0},
+    {"Application, argument", QUAYSAFFRON_APPLICATION, 1},
+    {"OrLeft", QUAYSAFFRON_OR_LEFT, 0},
+    {"OrRight", QUAYSAFFRON_OR_RIGHT, 0},
+    {"Case, head", QUAYSAFFRON_CASE, 0},
+    {"Case, first term", QUAYSAFFRON_CASE, 2},
+    {"Case, second term", QUAYSAFFRON_CASE, 4},
+    {"Abort", QUAYSAFFRON_ABORT, 0},
+    {"TypeAscription, term", QUAYSAFFRON_ASCRIPTION, 0},
+};
+
+enum { CHILDREN = sizeof children / sizeof children[0], FIELDS = QUAYSAFFRON_NODE_NUMBERS - 1 };
+
+/* A book with one assumption, and its Ident as node 0. */
+static void start_term(void)
+{
+    static const uint16_t first[FIELDS] = {0, 0, 0, 0, 0};
+    memset(&book, 0, sizeof book);
+    memset(terms, 0, sizeof terms);
+    nodes = 0;
+    assume(&book, "x", falsity(&book));
+    add_node(QUAYSAFFRON_IDENT, first);
+}
+
+/* 1,024 nodes on a path by each child; the names of Function and Case are the assumption's. */
+static void measure_terms(struct call *call)
+{
+    for (size_t i = 0; i < CHILDREN; i++) {
+        start_term();
+        memcpy(words, book.words, sizeof words);
+        while (nodes < PATH) {
+            uint16_t fields[FIELDS] = {0, 0, 0, 0, 0};
+            fields[children[i].field] = (uint16_t)(nodes - 1);
+            add_node(children[i].kind, fields);
+        }
+        measure(call, children[i].name, run_text, 0);
+    }
+}
+
+/* 1,024 nodes on a path whose first half, or only one, is of terms and the rest of an ascribed formula. */
+static void measure_formulas(struct call *call, size_t kind, bool right, size_t above)
+{
+    uint16_t fields[FIELDS] = {0, 0, 0, 0, 0};
+    size_t tower;
+    start_term();
+    tower = right ? chain(&book, kind, 0, PATH - above - 1, 0) : left_chain(&book, kind, 0, PATH - above - 1, 0);
+    memcpy(words, book.words, sizeof words);
+    fields[1] = (uint16_t)tower;
+    add_node(QUAYSAFFRON_ASCRIPTION, fields);
+    fields[1] = 0;
+    for (size_t i = 1; i < above; i++) {
+        fields[0] = (uint16_t)(nodes - 1);
+        add_node(QUAYSAFFRON_PROJECT_FST, fields);
+    }
+    measure(call, right ? "an ascribed formula, right halves" : "an ascribed formula, left halves", run_text, 0);
+}
+
+static void measure_text(struct call *call)
+{
+    measure_terms(call);
+    for (size_t kind = QUAYSAFFRON_AND; kind <= QUAYSAFFRON_IMPL; kind++) {
+        for (int right = 0; right < 2; right++) {
+            measure_formulas(call, kind, right == 1, 1);
+            measure_formulas(call, kind, right == 1, PATH / 2);
+        }
+    }
+}
+
+/* x : T->(..->(T->p)), the goal p: 1,023 Applications and x on a path. And (p|D)->q with D deep, which comes to be ascribed. */
+static void measure_output_text(struct call *call)
+{
+    size_t t, p, deep;
+    memset(&book, 0, sizeof book);
+    t = truth(&book);
+    book.goal = atom(&book, 0);
+    assume(&book, "x", chain(&book, QUAYSAFFRON_IMPL, t, PATH - 1, book.goal));
+    file_length = house_file(&book, file);
+    measure(call, "a text of Applications", run_output, 0);
+    memset(&book, 0, sizeof book);
+    t = truth(&book);
+    p = atom(&book, 0);
+    book.goal = atom(&book, 1);
+    deep = left_chain(&book, QUAYSAFFRON_AND, t, PATH / 2, t);
+    assume(&book, "x", join(&book, QUAYSAFFRON_IMPL, join(&book, QUAYSAFFRON_OR, p, join(&book, QUAYSAFFRON_IMPL, deep, p)), book.goal));
+    assume(&book, "y", p);
+    file_length = house_file(&book, file);
+    measure(call, "a text with an ascribed formula", run_output, 0);
+}
+
+static void measure_tests(struct call *name, struct call *test_words, struct call *test_names)
+{
+    measure(name, "the last index", run_name, 0);
+    memset(&book, 0, sizeof book);
+    (void)chain(&book, QUAYSAFFRON_AND, falsity(&book), QUAYSAFFRON_MOST_WORDS - 1, 0);
+    memcpy(words, book.words, sizeof words);
+    measure(test_words, "16,384 words", run_test_words, 0);
+    for (size_t i = 0; i < QUAYSAFFRON_MOST_ASSUMPTIONS; i++) {
+        assume_next(&book, 0);
+    }
+    measure(test_names, "64 names", run_test_names, 0);
+}
+
+static void tell(const struct call *call)
+{
+    bool within = call->bytes <= call->told;
+    printf("%-11s %7zu bytes of %7zu (%s)%s\n", call->name, call->bytes, call->told, call->way, within ? "" : ": MORE THAN TOLD");
+    failed |= !within;
+}
+
+int main(void)
+{
+    enum { PROVE, STATUS, TEXT, OUTPUT, NAME, TEST_WORDS, TEST_NAMES, CALLS };
+    struct call calls[CALLS] = {
+        {"prove", 0, "", QUAYSAFFRON_PROVE_STACK_BYTES},
+        {"status", 0, "", QUAYSAFFRON_STATUS_STACK_BYTES},
+        {"text", 0, "", QUAYSAFFRON_TEXT_STACK_BYTES},
+        {"output", 0, "", QUAYSAFFRON_OUTPUT_STACK_BYTES},
+        {"name", 0, "", QUAYSAFFRON_OTHER_STACK_BYTES},
+        {"test_words", 0, "", QUAYSAFFRON_OTHER_STACK_BYTES},
+        {"test_names", 0, "", QUAYSAFFRON_OTHER_STACK_BYTES},
+    };
+    if (posix_memalign((void **)&stack, ALIGNMENT, STACK_BYTES) != 0) {
+        fputs("no stack\n", stderr);
+        return 1;
+    }
+    measure_levels(&calls[PROVE], run_prove, 0, true);
+    measure_levels(&calls[STATUS], run_status, 0, false);
+    measure_levels(&calls[STATUS], run_status, QUAYSAFFRON_FIRST_FREE_SYMBOL, false);
+    measure_levels(&calls[OUTPUT], run_output, 0, true);
+    measure_text(&calls[TEXT]);
+    measure_output_text(&calls[OUTPUT]);
+    measure_tests(&calls[NAME], &calls[TEST_WORDS], &calls[TEST_NAMES]);
+    for (size_t i = 0; i < CALLS; i++) {
+        tell(&calls[i]);
+    }
+    return failed;
+}
