@@ -3,6 +3,11 @@
 #include <stdio.h>
 #include <string.h>
 
+void clear(struct book *book)
+{
+    memset(book, 0, sizeof *book);
+}
+
 size_t add(struct book *book, uint32_t word)
 {
     if (book->count == QUAYSAFFRON_MOST_WORDS) {

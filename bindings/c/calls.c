@@ -192,8 +192,7 @@ bool text_holds(const struct draft *lent, const uint8_t *text_before, struct wri
     }
 }
 
-/* "Index i has i/26+1 letters: i in base 26, padded in front with a." */
-static bool spelled(size_t index, const uint8_t *name, size_t size)
+bool spelled(size_t index, const uint8_t *name, size_t size)
 {
     size_t rest = index;
     if (size != index / 26 + 1) {

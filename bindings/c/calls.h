@@ -59,7 +59,7 @@ size_t ask_status(const struct search *lent, quaysaffron_answer *answer);
 struct written ask_text(const struct draft *lent);
 struct written ask_name(size_t index, uint8_t *name, size_t name_length);
 
-/* Whether all bytes from a place on, or all of them, are the same. */
+/* Whether every byte has this value. */
 bool bytes_are(const void *bytes, size_t length, uint8_t value);
 
 /* Whether an answer and the slices are as the header says. */
@@ -68,6 +68,9 @@ bool status_holds(const struct search *lent, const struct before *before, size_t
 bool text_holds(const struct draft *lent, const uint8_t *text_before, struct written written);
 bool name_holds(size_t index, const uint8_t *name, size_t name_length, struct written written);
 bool output_holds(const uint8_t *out, size_t length);
+
+/* Whether a name is that of a generated index: i/26+1 letters, i in base 26, padded in front with a. */
+bool spelled(size_t index, const uint8_t *name, size_t size);
 
 /* The number of a printed line `refused N`, and 0 of any other. */
 size_t printed_refusal(const uint8_t *printed, size_t length);

@@ -75,7 +75,7 @@ static void check_damaged(struct checks *checks)
     static uint8_t file[2 * QUAYSAFFRON_MOST_FILE_BYTES];
     struct book *book = &checks->book;
     size_t length;
-    memset(book, 0, sizeof *book);
+    clear(book);
     book->goal = atom(book, 0);
     assume(book, "left_over", book->goal);
     length = house_file(book, file);

@@ -20,7 +20,7 @@ enum { JUNKS = sizeof junks, SPARE_WORDS = 64, SPARE_NODES = 64 };
 
 static struct book *start(struct checks *checks)
 {
-    memset(&checks->book, 0, sizeof checks->book);
+    clear(&checks->book);
     return &checks->book;
 }
 

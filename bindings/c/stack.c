@@ -224,7 +224,7 @@ enum { WAYS = sizeof ways / sizeof ways[0] };
 static void lay_way(const struct way *way, size_t symbol, bool assumed, size_t levels)
 {
     size_t left;
-    memset(&book, 0, sizeof book);
+    clear(&book);
     if (way->goal != NULL) {
         way->goal(levels, symbol);
     } else if (assumed) {
@@ -287,7 +287,7 @@ enum { CHILDREN = sizeof children / sizeof children[0], FIELDS = QUAYSAFFRON_NOD
 static void start_term(void)
 {
     static const uint16_t first[FIELDS] = {0, 0, 0, 0, 0};
-    memset(&book, 0, sizeof book);
+    clear(&book);
     memset(terms, 0, sizeof terms);
     nodes = 0;
     assume(&book, "x", falsity(&book));
@@ -342,13 +342,13 @@ static void measure_text(struct call *call)
 static void measure_output_text(struct call *call)
 {
     size_t t, p, deep;
-    memset(&book, 0, sizeof book);
+    clear(&book);
     t = truth(&book);
     book.goal = atom(&book, 0);
     assume(&book, "x", chain(&book, QUAYSAFFRON_IMPL, t, PATH - 1, book.goal));
     file_length = house_file(&book, file);
     measure(call, "a text of Applications", run_output, 0);
-    memset(&book, 0, sizeof book);
+    clear(&book);
     t = truth(&book);
     p = atom(&book, 0);
     book.goal = atom(&book, 1);
@@ -362,7 +362,7 @@ static void measure_output_text(struct call *call)
 static void measure_tests(struct call *name, struct call *test_words, struct call *test_names)
 {
     measure(name, "the last index", run_name, 0);
-    memset(&book, 0, sizeof book);
+    clear(&book);
     (void)chain(&book, QUAYSAFFRON_AND, falsity(&book), QUAYSAFFRON_MOST_WORDS - 1, 0);
     memcpy(words, book.words, sizeof words);
     measure(test_words, "16,384 words", run_test_words, 0);
