@@ -5,9 +5,9 @@ use mathlib.Core.Option.{Option, none, some}
 use mathlib.Core.List.{List}
 use Rattle.theory.specs.Refusal.{Fault, Refused, faultAt}
 use Rattle.theory.specs.Call as C
-use Rattle.theory.specs.Call.{Claim, Numbers, numbers, called}
+use Rattle.theory.specs.Call.{Claim, Numbers, called}
 use Rattle.theory.specs.Status as S
-use Rattle.theory.specs.Status.{Inquiry, settled, ranShort, rejected, statusNumbers, asked}
+use Rattle.theory.specs.Status.{Inquiry, settled, ranShort, rejected, asked}
 use Rattle.context.specs.Area.{Rec}
 use Rattle.refusal.specs.declared.Place.{Place}
 use Rattle.refusal.specs.Answers.{placeOf}

@@ -5,15 +5,15 @@ use mathlib.Core.Path.{_≡_}
 use mathlib.Core.Option.{Option}
 use mathlib.Core.List.{List, [], _∷_}
 use Rattle.theory.specs.Refusal as R
-use Rattle.refusal.specs.Table.{numberIn, placeIn}
 use Rattle.theory.specs.Call.{Claim, Numbers, Outcome, proved, unprovable, shortage, refused, numbers, recordsAfter, called}
 use Rattle.theory.specs.Status as S
 use Rattle.theory.specs.Status.{Inquiry, Status, settled, ranShort, rejected, statusNumbers, asked}
+use Rattle.refusal.specs.Table.{numberIn, placeIn}
 use Rattle.context.specs.Area.{Rec, zeroed}
-use Rattle.call.specs.declared.Outcome as CO
-use Rattle.call.specs.declared.Outcome.the-variants as O
-use Rattle.status.specs.declared.Status as ST
-use Rattle.status.specs.declared.Status.the-variants as A
+use Rattle.call.specs.declared.Outcome as CallOutcome
+use Rattle.call.specs.declared.Outcome.the-variants as OfCall
+use Rattle.status.specs.declared.Status as StatusAnswer
+use Rattle.status.specs.declared.Status.the-variants as OfStatus
 use Rattle.status.specs.Whole.{recordsLeft}
 
 -- no number of document 01's tells Proved from Unprovable, or one verdict from another; the kind does
@@ -50,18 +50,18 @@ statusKind (ranShort l n) = Short
 statusKind (rejected f i) = Refused
 
 -- the kinds of the prover's and the status' own answers
-abbrev pub kindOf : CO.Outcome → Kind
-kindOf (O.Proved r n u f t) = Proved
-kindOf (O.Unprovable n u f t) = Unprovable
-kindOf (O.Short k n) = Short
-kindOf (O.Refused k i) = Refused
+abbrev pub kindOf : CallOutcome.Outcome → Kind
+kindOf (OfCall.Proved r n u f t) = Proved
+kindOf (OfCall.Unprovable n u f t) = Unprovable
+kindOf (OfCall.Short k n) = Short
+kindOf (OfCall.Refused k i) = Refused
 
-abbrev pub verdictOf : ST.Status → Kind
-verdictOf A.Solvable = Solvable
-verdictOf A.Unsolvable = Unsolvable
-verdictOf A.Unknown = Unknown
-verdictOf (A.Short k n) = Short
-verdictOf (A.Refused k i) = Refused
+abbrev pub verdictOf : StatusAnswer.Status → Kind
+verdictOf OfStatus.Solvable = Solvable
+verdictOf OfStatus.Unsolvable = Unsolvable
+verdictOf OfStatus.Unknown = Unknown
+verdictOf (OfStatus.Short k n) = Short
+verdictOf (OfStatus.Refused k i) = Refused
 
 -- a kind, and the numbers that come with it, as another language finds them in an array
 abbrev pub inOrder : Kind → Numbers → List ℕ
@@ -74,7 +74,8 @@ outcomeAnswer o = inOrder (outcomeKind o) (numbers o)
 abbrev pub statusAnswer : Status → List ℕ
 statusAnswer s = inOrder (statusKind s) (statusNumbers s)
 
--- the claim x with the work records w comes to the number k and the answer a; f, t and w1 are its words, term numbers and records afterwards
+-- the claim x with the work records w comes to the number k and the answer a; f, t and w1 are its words, term numbers and records
+-- afterwards
 pub record Searched (x : Claim) (w : List Rec) (k : ℕ) (a f t : List ℕ) (w1 : List Rec) : Type 0 where
   pub number : k ≡ numbers ((called x) .outcome) .number
   pub answer : a ≡ outcomeAnswer ((called x) .outcome)
