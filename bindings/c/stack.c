@@ -283,14 +283,14 @@ static const struct child children[] = {
 
 enum { CHILDREN = sizeof children / sizeof children[0], FIELDS = QUAYSAFFRON_NODE_NUMBERS - 1 };
 
-/* A book with one assumption, and its Ident as node 0. */
+/* A book with one assumption, whose symbol has the most digits, and its Ident as node 0. */
 static void start_term(void)
 {
     static const uint16_t first[FIELDS] = {0, 0, 0, 0, 0};
     clear(&book);
     memset(terms, 0, sizeof terms);
     nodes = 0;
-    assume(&book, "x", falsity(&book));
+    assume(&book, "x", atom(&book, QUAYSAFFRON_LAST_SYMBOL));
     add_node(QUAYSAFFRON_IDENT, first);
 }
 
@@ -309,7 +309,7 @@ static void measure_terms(struct call *call)
     }
 }
 
-/* 1,024 nodes on a path whose first half, or only one, is of terms and the rest of an ascribed formula. */
+/* 1,024 nodes on a path, so many of them terms and the rest those of an ascribed formula. */
 static void measure_formulas(struct call *call, size_t kind, bool right, size_t above)
 {
     uint16_t fields[FIELDS] = {0, 0, 0, 0, 0};
@@ -334,27 +334,35 @@ static void measure_text(struct call *call)
         for (int right = 0; right < 2; right++) {
             measure_formulas(call, kind, right == 1, 1);
             measure_formulas(call, kind, right == 1, PATH / 2);
+            measure_formulas(call, kind, right == 1, PATH - 1);
         }
     }
 }
 
-/* x : T->(..->(T->p)), the goal p: 1,023 Applications and x on a path. And (p|D)->q with D deep, which comes to be ascribed. */
-static void measure_output_text(struct call *call)
+/* x : T->(..->(T->p)) and the goal p: 1,023 Applications and x on a path. */
+static void measure_applications(struct call *call)
 {
-    size_t t, p, deep;
+    size_t t;
     clear(&book);
     t = truth(&book);
     book.goal = atom(&book, 0);
     assume(&book, "x", chain(&book, QUAYSAFFRON_IMPL, t, PATH - 1, book.goal));
     file_length = house_file(&book, file);
     measure(call, "a text of Applications", run_output, 0);
+}
+
+/* x : (q|q)->C with C = T->(..->(T->p)), y : q and the goal p: half a path of Applications, and q->C ascribed below them. */
+static void measure_ascribed(struct call *call)
+{
+    size_t t, q, either, deep;
     clear(&book);
     t = truth(&book);
-    p = atom(&book, 0);
-    book.goal = atom(&book, 1);
-    deep = left_chain(&book, QUAYSAFFRON_AND, t, PATH / 2, t);
-    assume(&book, "x", join(&book, QUAYSAFFRON_IMPL, join(&book, QUAYSAFFRON_OR, p, join(&book, QUAYSAFFRON_IMPL, deep, p)), book.goal));
-    assume(&book, "y", p);
+    q = atom(&book, 1);
+    book.goal = atom(&book, 0);
+    either = join(&book, QUAYSAFFRON_OR, q, q);
+    deep = chain(&book, QUAYSAFFRON_IMPL, t, PATH / 2 - 4, book.goal);
+    assume(&book, "x", join(&book, QUAYSAFFRON_IMPL, either, deep));
+    assume(&book, "y", q);
     file_length = house_file(&book, file);
     measure(call, "a text with an ascribed formula", run_output, 0);
 }
@@ -400,7 +408,8 @@ int main(void)
     measure_levels(&calls[STATUS], run_status, QUAYSAFFRON_FIRST_FREE_SYMBOL, false);
     measure_levels(&calls[OUTPUT], run_output, 0, true);
     measure_text(&calls[TEXT]);
-    measure_output_text(&calls[OUTPUT]);
+    measure_applications(&calls[OUTPUT]);
+    measure_ascribed(&calls[OUTPUT]);
     measure_tests(&calls[NAME], &calls[TEST_WORDS], &calls[TEST_NAMES]);
     for (size_t i = 0; i < CALLS; i++) {
         tell(&calls[i]);
