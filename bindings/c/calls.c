@@ -2,7 +2,7 @@
 
 #include <string.h>
 
-enum { JUNK = 0xa5 };
+enum { JUNK = 0xa5, LETTERS = 26 };
 
 static quaysaffron_answer junk_answer(void)
 {
@@ -195,21 +195,21 @@ bool text_holds(const struct draft *lent, const uint8_t *text_before, struct wri
 bool spelled(size_t index, const uint8_t *name, size_t size)
 {
     size_t rest = index;
-    if (size != index / 26 + 1) {
+    if (size != index / LETTERS + 1) {
         return false;
     }
     for (size_t i = size; 0 < i; i--) {
-        if (name[i - 1] != 'a' + rest % 26) {
+        if (name[i - 1] != 'a' + rest % LETTERS) {
             return false;
         }
-        rest /= 26;
+        rest /= LETTERS;
     }
     return true;
 }
 
 bool name_holds(size_t index, const uint8_t *name, size_t name_length, struct written written)
 {
-    size_t expected = name_length < index / 26 + 1 ? QUAYSAFFRON_NO_ROOM : 0;
+    size_t expected = name_length < index / LETTERS + 1 ? QUAYSAFFRON_NO_ROOM : 0;
     if (index > QUAYSAFFRON_LAST_INDEX) {
         expected = QUAYSAFFRON_NAMES;
     }

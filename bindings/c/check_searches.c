@@ -191,21 +191,33 @@ static void nothing_lent(struct checks *checks)
     expect(checks, STATUS_TOO, &lent, "1: nothing lent", refused(QUAYSAFFRON_SIZES, 0));
 }
 
-/* p0 and then words of which the first breaks the layout; words behind the count may. */
+/* p0, a word that breaks the layout and another one; words behind the count may. */
+static void wrong_word(struct checks *checks, uint32_t word)
+{
+    struct book *book = start(checks);
+    struct search lent;
+    atom(book, 0);
+    add(book, word);
+    add(book, QUAYSAFFRON_NO_WORD);
+    lent = ample(checks);
+    expect(checks, STATUS_TOO, &lent, "2: the lowest of two words", refused(QUAYSAFFRON_BAD_FORMULA, 1));
+    lent.count = 1;
+    expect(checks, PROVE, &lent, "a word behind the count", unprovable(3));
+}
+
 static void words(struct checks *checks)
 {
-    static const uint32_t wrong[] = {QUAYSAFFRON_NO_WORD, 8, 0x10, 0x40000, 0x11, 0x40002, 0x40006, 0x40007, 0x13, 0x40003,
-                                     0x14, 0x40004, 0x15, 0x40005, UINT32_MAX};
+    static const size_t wrong[][3] = {
+        {QUAYSAFFRON_TRUE, 1, 0}, {QUAYSAFFRON_TRUE, 0, 1}, {QUAYSAFFRON_FALSE, 1, 0}, {QUAYSAFFRON_FALSE, 0, 1},
+        {QUAYSAFFRON_ATOM, 0, 1}, {QUAYSAFFRON_FOR_ALL, 0, 1}, {QUAYSAFFRON_EXISTS, 0, 1}, {QUAYSAFFRON_AND, 1, 0},
+        {QUAYSAFFRON_AND, 0, 1}, {QUAYSAFFRON_OR, 1, 0}, {QUAYSAFFRON_OR, 0, 1}, {QUAYSAFFRON_IMPL, 1, 0}, {QUAYSAFFRON_IMPL, 0, 1},
+    };
     struct search lent;
     for (size_t i = 0; i < sizeof wrong / sizeof wrong[0]; i++) {
-        struct book *book = start(checks);
-        atom(book, 0);
-        add(book, wrong[i]);
-        add(book, QUAYSAFFRON_NO_WORD);
-        lent = ample(checks);
-        expect(checks, STATUS_TOO, &lent, "2: the lowest of two words", refused(QUAYSAFFRON_BAD_FORMULA, 1));
-        lent.count = 1;
-        expect(checks, PROVE, &lent, "a word behind the count", unprovable(3));
+        wrong_word(checks, quaysaffron_word(wrong[i][0], wrong[i][1], wrong[i][2]));
+    }
+    for (uint32_t kind = QUAYSAFFRON_EXISTS + 1; kind <= QUAYSAFFRON_NO_WORD; kind++) {
+        wrong_word(checks, kind);
     }
     start(checks)->goal = join(&checks->book, QUAYSAFFRON_AND, 0, 0);
     lent = ample(checks);
@@ -226,7 +238,8 @@ static void assumptions(struct checks *checks)
         assume_next(book, 0);
     }
     lent = ample(checks);
-    expect(checks, PROVE, &lent, "3: 65 assumptions, before one out of range", refused(QUAYSAFFRON_BAD_ASSUMPTION, 64));
+    expect(checks, PROVE, &lent, "3: 65 assumptions, before one out of range",
+           refused(QUAYSAFFRON_BAD_ASSUMPTION, QUAYSAFFRON_MOST_ASSUMPTIONS));
     book->assumed[1] = 0;
     book->assumed[2] = 0;
     lent.assumed_length = QUAYSAFFRON_MOST_ASSUMPTIONS;

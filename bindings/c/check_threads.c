@@ -7,7 +7,7 @@
 #include <stdlib.h>
 #include <string.h>
 
-enum { THREADS = 8, EXPECTED_NUMBERS = 10 };
+enum { THREADS = 8 };
 
 size_t behind_expected(const struct list *list, size_t row)
 {

@@ -64,9 +64,9 @@ static void text_books(struct checks *checks)
     expect(checks, &lent, "text, 2: a word", QUAYSAFFRON_BAD_FORMULA, 2);
     lent = start(checks);
     lent.assumptions = QUAYSAFFRON_MOST_ASSUMPTIONS + 1;
-    expect(checks, &lent, "text, 3: 65 assumptions", QUAYSAFFRON_BAD_ASSUMPTION, 64);
+    expect(checks, &lent, "text, 3: 65 assumptions", QUAYSAFFRON_BAD_ASSUMPTION, QUAYSAFFRON_MOST_ASSUMPTIONS);
     lent.assumptions = SIZE_MAX;
-    expect(checks, &lent, "text, 3: the most assumptions", QUAYSAFFRON_BAD_ASSUMPTION, 64);
+    expect(checks, &lent, "text, 3: the most assumptions", QUAYSAFFRON_BAD_ASSUMPTION, QUAYSAFFRON_MOST_ASSUMPTIONS);
     lent.assumptions = 2;
     expect(checks, &lent, "text, 4: a name too few", QUAYSAFFRON_BAD_NAMES, 1);
     lent.assumptions = 0;
@@ -169,6 +169,7 @@ static void expect_words(struct checks *checks, size_t length, size_t count, con
 
 static void test_words(struct checks *checks)
 {
+    enum { LAST = QUAYSAFFRON_MOST_WORDS - 1 };
     uint32_t *words = checks->room.lent.words;
     fill(&checks->room, JUNK);
     expect_words(checks, 0, 0, "no word", 0, 0);
@@ -177,16 +178,16 @@ static void test_words(struct checks *checks)
         words[i] = quaysaffron_word(i % (QUAYSAFFRON_EXISTS + 1), 0, 0);
     }
     words[3] = quaysaffron_word(QUAYSAFFRON_AND, 2, 2);
-    words[16383] = quaysaffron_word(QUAYSAFFRON_OR, 16382, 16382);
+    words[LAST] = quaysaffron_word(QUAYSAFFRON_OR, LAST - 1, LAST - 1);
     expect_words(checks, QUAYSAFFRON_MOST_WORDS, QUAYSAFFRON_MOST_WORDS, "16,384 words", 0, 0);
-    words[16383] = quaysaffron_word(QUAYSAFFRON_OR, 16382, 16383);
-    expect_words(checks, QUAYSAFFRON_MOST_WORDS, QUAYSAFFRON_MOST_WORDS, "2: the last of 16,384", 2, 16383);
+    words[LAST] = quaysaffron_word(QUAYSAFFRON_OR, LAST - 1, LAST);
+    expect_words(checks, QUAYSAFFRON_MOST_WORDS, QUAYSAFFRON_MOST_WORDS, "2: the last of 16,384", QUAYSAFFRON_BAD_FORMULA, LAST);
     expect_words(checks, QUAYSAFFRON_MOST_WORDS, QUAYSAFFRON_MOST_WORDS - 1, "a word behind the count", 0, 0);
-    expect_words(checks, QUAYSAFFRON_MOST_WORDS, SIZE_MAX, "2: looked at whole", 2, 16383);
+    expect_words(checks, QUAYSAFFRON_MOST_WORDS, SIZE_MAX, "2: looked at whole", QUAYSAFFRON_BAD_FORMULA, LAST);
     words[3] = quaysaffron_word(QUAYSAFFRON_AND, 2, 3);
-    expect_words(checks, 16, 4, "2: the last of four", 2, 3);
+    expect_words(checks, 16, 4, "2: the last of four", QUAYSAFFRON_BAD_FORMULA, 3);
     expect_words(checks, 16, 3, "three of four", 0, 0);
-    expect_words(checks, 4, 5, "2: more counted than there are", 2, 3);
+    expect_words(checks, 4, 5, "2: more counted than there are", QUAYSAFFRON_BAD_FORMULA, 3);
     expect_words(checks, 3, 5, "more counted than there are", 0, 0);
 }
 
@@ -203,33 +204,33 @@ static void expect_names(struct checks *checks, size_t length, size_t names, con
 
 static void test_names(struct checks *checks)
 {
-    enum { NAMES = 4 * QUAYSAFFRON_MOST_ASSUMPTIONS, ENTRY = 3 };
+    enum { MOST = QUAYSAFFRON_MOST_ASSUMPTIONS, NAMES = 4 * MOST, ENTRY = 3 };
     uint8_t *text = checks->room.lent.text;
     fill(&checks->room, JUNK);
     expect_names(checks, 0, 0, "no name", 0, 0);
-    expect_names(checks, 0, 1, "4: a name that is not there", 4, 0);
-    expect_names(checks, 0, SIZE_MAX, "4: the most names", 4, 0);
+    expect_names(checks, 0, 1, "4: a name that is not there", QUAYSAFFRON_BAD_NAMES, 0);
+    expect_names(checks, 0, SIZE_MAX, "4: the most names", QUAYSAFFRON_BAD_NAMES, 0);
     for (size_t i = 0; i < NAMES; i++) {
         text[ENTRY * i] = 2;
         text[ENTRY * i + 1] = (uint8_t)('a' + i / 16);
         text[ENTRY * i + 2] = (uint8_t)('A' + i % 16);
     }
     expect_names(checks, ENTRY * NAMES, NAMES, "any number of names", 0, 0);
-    expect_names(checks, ENTRY * 64, 64, "64 names", 0, 0);
-    expect_names(checks, ENTRY * 64, 63, "4: one more than asked for", 4, 63);
-    expect_names(checks, ENTRY * 64, 65, "4: one less than asked for", 4, 64);
-    expect_names(checks, ENTRY * 64 - 1, 64, "4: the last one cut", 4, 63);
-    expect_names(checks, ENTRY * 64 - 1, SIZE_MAX, "4: the most names", 4, 63);
-    expect_names(checks, ENTRY * 64 + 1, 64, "4: a byte behind the last one", 4, 64);
-    memcpy(text + ENTRY * 63, text, ENTRY);
-    expect_names(checks, ENTRY * 64, 64, "4: the last one repeats the first", 4, 63);
+    expect_names(checks, ENTRY * MOST, MOST, "64 names", 0, 0);
+    expect_names(checks, ENTRY * MOST, MOST - 1, "4: one more than asked for", QUAYSAFFRON_BAD_NAMES, MOST - 1);
+    expect_names(checks, ENTRY * MOST, MOST + 1, "4: one less than asked for", QUAYSAFFRON_BAD_NAMES, MOST);
+    expect_names(checks, ENTRY * MOST - 1, MOST, "4: the last one cut", QUAYSAFFRON_BAD_NAMES, MOST - 1);
+    expect_names(checks, ENTRY * MOST - 1, SIZE_MAX, "4: the most names", QUAYSAFFRON_BAD_NAMES, MOST - 1);
+    expect_names(checks, ENTRY * MOST + 1, MOST, "4: a byte behind the last one", QUAYSAFFRON_BAD_NAMES, MOST);
+    memcpy(text + ENTRY * (MOST - 1), text, ENTRY);
+    expect_names(checks, ENTRY * MOST, MOST, "4: the last one repeats the first", QUAYSAFFRON_BAD_NAMES, MOST - 1);
     text[ENTRY * 5 + 1] = '-';
-    expect_names(checks, ENTRY * 64, 64, "4: the first of two faults", 4, 5);
+    expect_names(checks, ENTRY * MOST, MOST, "4: the first of two faults", QUAYSAFFRON_BAD_NAMES, 5);
     text[0] = QUAYSAFFRON_MOST_NAME_BYTES;
     memset(text + 1, 'x', QUAYSAFFRON_MOST_NAME_BYTES + 1);
     expect_names(checks, 1 + QUAYSAFFRON_MOST_NAME_BYTES, 1, "32 bytes", 0, 0);
     text[0] = QUAYSAFFRON_MOST_NAME_BYTES + 1;
-    expect_names(checks, 2 + QUAYSAFFRON_MOST_NAME_BYTES, 1, "4: 33 bytes", 4, 0);
+    expect_names(checks, 2 + QUAYSAFFRON_MOST_NAME_BYTES, 1, "4: 33 bytes", QUAYSAFFRON_BAD_NAMES, 0);
 }
 
 /* Each byte as a name of its own: 63 are lawful. */
@@ -239,7 +240,7 @@ static void name_bytes(struct checks *checks)
         bool lawful = ('0' <= byte && byte <= '9') || ('A' <= byte && byte <= 'Z') || ('a' <= byte && byte <= 'z') || byte == '_';
         checks->room.lent.text[0] = 1;
         checks->room.lent.text[1] = (uint8_t)byte;
-        expect_names(checks, 2, 1, "a name of one byte", lawful ? 0 : 4, 0);
+        expect_names(checks, 2, 1, "a name of one byte", lawful ? 0 : QUAYSAFFRON_BAD_NAMES, 0);
     }
 }
 

@@ -96,14 +96,14 @@ static void draw_deep(struct dice *dice, struct book *book)
 {
     size_t part = draw_leaf(dice, book);
     size_t kind = once_in(dice, 2) ? QUAYSAFFRON_IMPL : QUAYSAFFRON_AND;
-    book->goal = chain(book, kind, kind == QUAYSAFFRON_AND ? truth(book) : part, 58 + below(dice, 10), part);
+    book->goal = chain(book, kind, kind == QUAYSAFFRON_AND ? truth(book) : part, QUAYSAFFRON_HIGHEST_LEVEL - 5 + below(dice, 10), part);
 }
 
 /* Contexts: around 256 atoms in a conjunction. */
 static void draw_wide(struct dice *dice, struct book *book)
 {
     book->goal = atom(book, QUAYSAFFRON_FIRST_FREE_SYMBOL + below(dice, 2));
-    suppose(dice, book, balanced(book, QUAYSAFFRON_AND, 0, 250 + below(dice, 12)));
+    suppose(dice, book, balanced(book, QUAYSAFFRON_AND, 0, QUAYSAFFRON_MOST_RECORDS - 6 + below(dice, 12)));
 }
 
 /* Names: around 4,096 implications that are tried one after the other. */

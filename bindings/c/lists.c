@@ -220,13 +220,13 @@ static const struct outcome nothing = {{0, 0, 0, 0, 0, 0, 0}, 0, 0, 0, false};
 static struct outcome told(const quaysaffron_answer *answer)
 {
     struct outcome outcome = nothing;
-    outcome.call[0] = answer->number;
-    outcome.call[1] = answer->place;
-    outcome.call[2] = answer->root;
-    outcome.call[3] = answer->steps;
-    outcome.call[4] = answer->indices;
-    outcome.call[5] = answer->formulas;
-    outcome.call[6] = answer->terms;
+    outcome.call[CALL_NUMBER] = answer->number;
+    outcome.call[CALL_PLACE] = answer->place;
+    outcome.call[CALL_ROOT] = answer->root;
+    outcome.call[CALL_STEPS] = answer->steps;
+    outcome.call[CALL_INDICES] = answer->indices;
+    outcome.call[CALL_FORMULAS] = answer->formulas;
+    outcome.call[CALL_TERMS] = answer->terms;
     return outcome;
 }
 
@@ -262,8 +262,8 @@ static struct outcome run_term(const struct list *list, struct row row, struct r
     lay_words(list, row.book, room);
     lay_halves(list, numbers_at(list, row.book), room->lent.terms, at_most(field(list, row.book, BOOK_NUMBERS), ROOM_NUMBERS));
     written = room_text(room, &lent, &outcome.kept);
-    outcome.call[0] = written.number;
-    outcome.call[1] = written.place;
+    outcome.call[CALL_NUMBER] = written.number;
+    outcome.call[CALL_PLACE] = written.place;
     tell_text(&outcome, written, room->lent.text);
     return outcome;
 }
@@ -275,7 +275,7 @@ static struct outcome run_status(const struct list *list, struct row row, struct
     quaysaffron_answer answer = room_status(room, &lent, &kept);
     struct outcome outcome = told(&answer);
     if (answer.number == 0) {
-        outcome.call[2] = answer.kind - QUAYSAFFRON_SOLVABLE + 1;
+        outcome.call[CALL_ROOT] = answer.kind - QUAYSAFFRON_SOLVABLE + 1;
     }
     outcome.kept = kept;
     return outcome;
@@ -286,7 +286,7 @@ static struct outcome run_file(const struct list *list, struct row row, struct r
 {
     struct outcome outcome = nothing;
     outcome.length = room_output(room, names_of(list, row.book), field(list, row.book, BOOK_NAMES), &outcome.kept);
-    outcome.call[0] = printed_refusal(room->lent.text, outcome.length);
+    outcome.call[CALL_NUMBER] = printed_refusal(room->lent.text, outcome.length);
     outcome.checksum = checksum(room->lent.text, outcome.length);
     return outcome;
 }

@@ -23,10 +23,14 @@ enum { CLAIM, TERM, STATUS, FILE_BYTES };
 /* The numbers of a row; what its list adds stands behind them and before the book. */
 enum { ROW_NUMBERS = 11 };
 
+/* The seven numbers of a call, by their places, and what the replay list expects behind them: ten numbers in all. */
+enum { CALL_NUMBER, CALL_PLACE, CALL_ROOT, CALL_STEPS, CALL_INDICES, CALL_FORMULAS, CALL_TERMS, CALL_NUMBERS };
+enum { EXPECTED_WRITER = CALL_NUMBERS, EXPECTED_LENGTH, EXPECTED_CHECKSUM, EXPECTED_NUMBERS };
+
 /* What came back: the seven numbers of the call (of a status, the verdict in the root's place), the writer's number, the length and the
  * Adler-32 of the text, and whether the answer and each lent slice are as the header says. */
 struct outcome {
-    size_t call[7];
+    size_t call[CALL_NUMBERS];
     size_t writer;
     size_t length;
     size_t checksum;

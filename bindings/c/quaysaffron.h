@@ -168,7 +168,7 @@ typedef struct {
  *   assumed, assumed_length   the assumptions, each the index of a given formula
  *   names, names_length       their names in the same order, each behind a byte that holds its length
  *   goal                      the index of a given formula
- *   terms, terms_length       room for nodes, 6 numbers each
+ *   terms, terms_length       room for nodes, 6 numbers each and no number over
  *   work, work_length         16,384 records
  *   steps                     the step limit
  *   answer                    is set

@@ -50,6 +50,7 @@ struct trial {
     uint8_t names_before[BOOK_NAMES];
     uint8_t file[FILE_ROOM];
     size_t met[CALLS][OUTCOMES];
+    size_t wanted;
     size_t calls;
     size_t wrong;
 };
@@ -235,10 +236,11 @@ static void write_found(struct trial *trial, const struct search *found, const q
 {
     struct draft lent = {found->words, found->words_length, answer->formulas, found->assumed_length, found->names, found->names_length,
                          found->terms, found->terms_length, answer->terms, answer->root, NULL, 0};
-    size_t wrong = text_refusal(&lent).number;
+    size_t number = text_refusal(&lent).number;
     lent.text_length = draw_text_length(trial);
-    if (wrong != 0) {
-        count(trial, TEXT, wrong, false);
+    if (number != 0) {
+        trial->wrong++;
+        printf("wrong: call %zu, what prove found breaks rule %zu\n", trial->calls, number);
     }
     write_text(trial, &lent);
 }
@@ -252,7 +254,7 @@ static void try_prove(struct trial *trial)
     size_t returned = ask_prove(&lent, answer);
     bool right = prove_holds(&lent, &before, returned, answer) && only_read(trial, &lent) && refused_alike(answer, refusal);
     count(trial, PROVE, outcome_of(answer), right);
-    if (answer->kind == QUAYSAFFRON_PROVED) {
+    if (answer->kind == QUAYSAFFRON_PROVED && trial->calls < trial->wanted) {
         write_found(trial, &lent, answer);
     }
 }
@@ -449,13 +451,13 @@ static bool make_room(struct trial *trial)
 int main(int arguments, char **argument)
 {
     static struct trial trial;
-    size_t calls = arguments > 1 ? strtoul(argument[1], NULL, 10) : 1000000;
+    trial.wanted = arguments > 1 ? strtoul(argument[1], NULL, 10) : 1000000;
     trial.dice.state = arguments > 2 ? strtoul(argument[2], NULL, 10) : 1;
     if (!make_room(&trial)) {
         fputs("no room\n", stderr);
         return 2;
     }
-    while (trial.calls < calls) {
+    while (trial.calls < trial.wanted) {
         try_one(&trial);
     }
     for (size_t call = 0; call < CALLS; call++) {

@@ -30,10 +30,14 @@ static const char *const faults[] = {"", "Sizes", "BadFormula", "BadAssumption",
 enum { SHOWN = 160 };
 
 /* A refusal has a place, a shortage has steps. */
-static void show_refused(const size_t call[7])
+static void show_refused(const size_t *call)
 {
-    bool shortage = QUAYSAFFRON_STEPS <= call[0] && call[0] <= QUAYSAFFRON_LEVELS;
-    printf("%zu %s, %s %zu", call[0], faults[call[0]], shortage ? "steps" : "place", shortage ? call[3] : call[1]);
+    size_t number = call[CALL_NUMBER];
+    if (QUAYSAFFRON_STEPS <= number && number <= QUAYSAFFRON_LEVELS) {
+        printf("%zu %s, steps %zu", number, faults[number], call[CALL_STEPS]);
+    } else {
+        printf("%zu %s, place %zu", number, faults[number], call[CALL_PLACE]);
+    }
 }
 
 /* The text, or the number of a writer that wrote none. */
@@ -58,13 +62,14 @@ static void show_verdict(size_t verdict)
 static void show_found(const struct outcome *outcome, const uint8_t *text)
 {
     const size_t *call = outcome->call;
-    if (call[6] == 0) {
+    if (call[CALL_TERMS] == 0) {
         printf("unprovable");
     } else {
-        printf("proved, root %zu", call[2]);
+        printf("proved, root %zu", call[CALL_ROOT]);
     }
-    printf(", steps %zu, names %zu, formulas %zu, terms %zu", call[3], call[4], call[5], call[6]);
-    if (call[6] != 0) {
+    printf(", steps %zu, names %zu", call[CALL_STEPS], call[CALL_INDICES]);
+    printf(", formulas %zu, terms %zu", call[CALL_FORMULAS], call[CALL_TERMS]);
+    if (call[CALL_TERMS] != 0) {
         printf(", ");
         show_text(outcome, text);
     }
@@ -72,10 +77,10 @@ static void show_found(const struct outcome *outcome, const uint8_t *text)
 
 static void show_file(const struct outcome *outcome)
 {
-    if (outcome->call[0] == 0) {
+    if (outcome->call[CALL_NUMBER] == 0) {
         printf("prints %zu bytes, Adler-32 %zu", outcome->length, outcome->checksum);
     } else {
-        printf("prints refused %zu", outcome->call[0]);
+        printf("prints refused %zu", outcome->call[CALL_NUMBER]);
     }
 }
 
@@ -83,12 +88,12 @@ static void show_answer(size_t kind, const struct outcome *outcome, const uint8_
 {
     if (kind == FILE_BYTES) {
         show_file(outcome);
-    } else if (outcome->call[0] != 0) {
+    } else if (outcome->call[CALL_NUMBER] != 0) {
         show_refused(outcome->call);
     } else if (kind == TERM) {
         show_text(outcome, text);
     } else if (kind == STATUS) {
-        show_verdict(outcome->call[2]);
+        show_verdict(outcome->call[CALL_ROOT]);
     } else {
         show_found(outcome, text);
     }
@@ -97,7 +102,7 @@ static void show_answer(size_t kind, const struct outcome *outcome, const uint8_
 /* What the lent slices hold: nothing above the fills after an answer, all that they held after a refusal. */
 static const char *rest(size_t kind, const struct outcome *outcome)
 {
-    size_t number = outcome->call[0];
+    size_t number = outcome->call[CALL_NUMBER];
     bool unchanged = (QUAYSAFFRON_SIZES <= number && number <= QUAYSAFFRON_BAD_GOAL) || number == QUAYSAFFRON_BAD_TERM;
     if (!outcome->kept) {
         return "SLICES WRONG";
@@ -142,8 +147,8 @@ enum { PROVED = 0, UNPROVABLE = QUAYSAFFRON_BAD_FILE + 1, PRINTED, KINDS };
 
 static size_t kind_of(size_t kind, const struct outcome *outcome)
 {
-    if (outcome->call[0] != 0) {
-        return outcome->call[0];
+    if (outcome->call[CALL_NUMBER] != 0) {
+        return outcome->call[CALL_NUMBER];
     }
     if (kind == FILE_BYTES) {
         return PRINTED;
@@ -151,20 +156,20 @@ static size_t kind_of(size_t kind, const struct outcome *outcome)
     if (outcome->writer != 0) {
         return outcome->writer;
     }
-    return outcome->call[6] == 0 ? UNPROVABLE : PROVED;
+    return outcome->call[CALL_TERMS] == 0 ? UNPROVABLE : PROVED;
 }
 
 /* Every number is the expected one, and each lent slice holds what it must. */
 static bool as_expected(const struct list *list, size_t row, const struct outcome *outcome)
 {
     size_t expected = skip(list, row, ROW_NUMBERS);
-    for (size_t k = 0; k < 7; k++) {
+    for (size_t k = 0; k < CALL_NUMBERS; k++) {
         if (outcome->call[k] != field(list, expected, k)) {
             return false;
         }
     }
-    return outcome->writer == field(list, expected, 7) && outcome->length == field(list, expected, 8)
-        && outcome->checksum == field(list, expected, 9) && outcome->kept;
+    return outcome->writer == field(list, expected, EXPECTED_WRITER) && outcome->length == field(list, expected, EXPECTED_LENGTH)
+        && outcome->checksum == field(list, expected, EXPECTED_CHECKSUM) && outcome->kept;
 }
 
 static void show_tally(const size_t tally[KINDS], size_t equal, size_t different)
