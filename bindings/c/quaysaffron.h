@@ -15,8 +15,8 @@
  *   puts in. Calls on buffers that do not overlap may run at once on any threads.
  * - Stack. QUAYSAFFRON_STACK_BYTES below; a thread with less room may overrun it.
  *
- * Nothing panics, unwinds or exits. Link libquaysaffron_c.a, which is for x86-64 Linux alone; on another machine run the program ./quay,
- * which takes a house file and uses the Rattle kit's emulator there.
+ * Nothing panics, unwinds or exits. Link target/staticlib/libquaysaffron_c.a, which `bindings/make library` makes for x86-64 Linux alone;
+ * on another machine run the program ./quay, which takes a house file and uses the Rattle kit's emulator there.
  */
 #ifndef QUAYSAFFRON_H
 #define QUAYSAFFRON_H
@@ -117,7 +117,8 @@ extern "C" {
 #define QUAYSAFFRON_TEXT_STACK_BYTES 458752
 #define QUAYSAFFRON_OUTPUT_STACK_BYTES 655360
 #define QUAYSAFFRON_OTHER_STACK_BYTES 4096 /* the name and the two tests */
-/* A thread's whole stack with which every call has slack. */
+/* A thread's whole stack, with which every call has slack. glibc puts a thread's own variables there too: where they are large, as under a
+ * sanitizer, take as much more. */
 #define QUAYSAFFRON_STACK_BYTES 1048576
 
 /* A pointer for an empty slice: non-null, aligned for every type of this header, never followed. */

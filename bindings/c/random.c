@@ -453,8 +453,8 @@ int main(int arguments, char **argument)
     static struct trial trial;
     trial.wanted = arguments > 1 ? strtoul(argument[1], NULL, 10) : 1000000;
     trial.dice.state = arguments > 2 ? strtoul(argument[2], NULL, 10) : 1;
-    if (!make_room(&trial)) {
-        fputs("no room\n", stderr);
+    if (trial.wanted == 0 || !make_room(&trial)) {
+        fputs("usage: random [CALLS [SEED]], with at least one call, and memory for it\n", stderr);
         return 2;
     }
     while (trial.calls < trial.wanted) {
