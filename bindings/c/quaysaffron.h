@@ -124,7 +124,7 @@ extern "C" {
 /* A pointer for an empty slice: non-null, aligned for every type of this header, never followed. */
 #define QUAYSAFFRON_EMPTY(type) ((type *)(uintptr_t)sizeof(uint64_t))
 
-/* A word of no kind, which is refused with QUAYSAFFRON_BAD_FORMULA wherever it stands. */
+/* A word of no kind, which is refused with QUAYSAFFRON_BAD_FORMULA wherever it is given. */
 #define QUAYSAFFRON_NO_WORD UINT32_C(15)
 
 /* The word of a formula: kind in the low 4 bits, left in the next 14, right in the top 14. Where one does not fit it is
