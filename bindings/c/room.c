@@ -35,26 +35,28 @@ static struct before copies(const struct room *room)
     return before;
 }
 
-quaysaffron_answer room_prove(struct room *room, const struct search *lent, bool *kept)
+typedef size_t search_call(const struct search *lent, quaysaffron_answer *answer);
+typedef bool search_promise(const struct search *lent, const struct before *before, size_t returned, const quaysaffron_answer *answer);
+
+static quaysaffron_answer ask(struct room *room, const struct search *lent, search_call *call, search_promise *holds, bool *kept)
 {
     quaysaffron_answer answer;
     struct before before = copies(room);
     size_t returned;
     room->before = room->lent;
-    returned = ask_prove(lent, &answer);
-    *kept = prove_holds(lent, &before, returned, &answer) && behind_search(room, lent);
+    returned = call(lent, &answer);
+    *kept = holds(lent, &before, returned, &answer) && behind_search(room, lent);
     return answer;
+}
+
+quaysaffron_answer room_prove(struct room *room, const struct search *lent, bool *kept)
+{
+    return ask(room, lent, ask_prove, prove_holds, kept);
 }
 
 quaysaffron_answer room_status(struct room *room, const struct search *lent, bool *kept)
 {
-    quaysaffron_answer answer;
-    struct before before = copies(room);
-    size_t returned;
-    room->before = room->lent;
-    returned = ask_status(lent, &answer);
-    *kept = status_holds(lent, &before, returned, &answer) && behind_search(room, lent);
-    return answer;
+    return ask(room, lent, ask_status, status_holds, kept);
 }
 
 struct written room_text(struct room *room, const struct draft *lent, bool *kept)

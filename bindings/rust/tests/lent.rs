@@ -145,34 +145,21 @@ fn unprovable_and_short() {
 #[test]
 fn refused_and_unchanged() {
     let fresh = Lent::new(&SWAP, 3, 8, JUNK);
-    let mut lent = fresh.clone();
-    assert_eq!(swap(&mut lent, 8, b"\x01x", 3, 17), refused(raw::SIZES, 0));
-    assert_eq!(
-        swap(&mut lent, 4, b"\x01x", 3, raw::MOST_STEPS + 1),
-        refused(raw::SIZES, 0)
-    );
-    // the first word of junk is looked at
-    assert_eq!(
-        swap(&mut lent, 5, b"\x01x", 3, 17),
-        refused(raw::BAD_FORMULA, 4)
-    );
-    assert_eq!(
-        swap(&mut lent, 2, b"\x01x", 1, 17),
-        refused(raw::BAD_ASSUMPTION, 0)
-    );
-    assert_eq!(
-        swap(&mut lent, 4, b"\x02x", 3, 17),
-        refused(raw::BAD_NAMES, 0)
-    );
-    assert_eq!(
-        swap(&mut lent, 4, b"\x01xy", 3, 17),
-        refused(raw::BAD_NAMES, 1)
-    );
-    assert_eq!(
-        swap(&mut lent, 4, b"\x01x", 4, 17),
-        refused(raw::BAD_GOAL, 0)
-    );
-    assert_eq!(lent, fresh);
+    // count, names, goal and step limit; the fifth word is the first of junk
+    let rows: [(usize, &[u8], usize, usize, Answer); 7] = [
+        (8, b"\x01x", 3, 17, refused(raw::SIZES, 0)),
+        (4, b"\x01x", 3, raw::MOST_STEPS + 1, refused(raw::SIZES, 0)),
+        (5, b"\x01x", 3, 17, refused(raw::BAD_FORMULA, 4)),
+        (2, b"\x01x", 1, 17, refused(raw::BAD_ASSUMPTION, 0)),
+        (4, b"\x02x", 3, 17, refused(raw::BAD_NAMES, 0)),
+        (4, b"\x01xy", 3, 17, refused(raw::BAD_NAMES, 1)),
+        (4, b"\x01x", 4, 17, refused(raw::BAD_GOAL, 0)),
+    ];
+    for (count, names, goal, steps, answer) in rows {
+        let mut lent = fresh.clone();
+        assert_eq!(swap(&mut lent, count, names, goal, steps), answer);
+        assert_eq!(lent, fresh);
+    }
 }
 
 #[test]
