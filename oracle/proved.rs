@@ -78,10 +78,17 @@ impl Lent {
         }
     }
 
-    /// The line of the text of what was proved, or of its refusal; behind the text the buffer must be zero.
-    fn text_line(&self, answer: &Answer) -> Result<String, usize> {
+    /// The lines of what was proved, or of the refusal of its text; behind the text the buffer must be zero.
+    fn proved_lines(&self, answer: &Answer) -> String {
+        let Answer {
+            root,
+            steps,
+            indices,
+            formulas,
+            terms,
+            ..
+        } = *answer;
         let mut text = vec![JUNK as u8; raw::PROGRAM_TEXT_BYTES];
-        let (formulas, terms) = (answer.formulas, answer.terms);
         let assumptions = self.assumed.len();
         let written = raw::text(
             &self.words,
@@ -90,14 +97,17 @@ impl Lent {
             &self.names,
             &self.terms,
             terms,
-            answer.root,
+            root,
             &mut text,
         );
         assert!(text[written.size..].iter().all(|byte| *byte == 0));
-        match written.number {
-            0 => Ok(String::from_utf8(text[..written.size].to_vec()).expect("a text")),
-            number => Err(number),
+        if written.number != 0 {
+            return format!("refused {}\n", written.number);
         }
+        let text = String::from_utf8_lossy(&text[..written.size]);
+        format!(
+            "proved\nsteps {steps}\nnames {indices}\nformulas {formulas}\nterms {terms}\n{text}\n"
+        )
     }
 }
 
@@ -124,29 +134,19 @@ fn searched(file: &[u8]) -> String {
         work,
         raw::PROGRAM_STEPS,
     );
-    let Answer {
-        kind,
-        number,
-        steps,
-        indices,
-        formulas,
-        terms,
-        ..
-    } = answer;
-    let words = if kind == raw::PROVED {
-        formulas
+    let words = if answer.kind == raw::PROVED {
+        answer.formulas
     } else {
         lent.count
     };
-    assert!(kind == raw::REFUSED || lent.zero_behind(words, raw::NODE_NUMBERS * terms));
+    assert!(
+        answer.kind == raw::REFUSED || lent.zero_behind(words, raw::NODE_NUMBERS * answer.terms)
+    );
     assert!(lent.tested_as(&answer));
-    match kind {
-        raw::PROVED => match lent.text_line(&answer) {
-            Ok(text) => format!("proved\nsteps {steps}\nnames {indices}\nformulas {formulas}\nterms {terms}\n{text}\n"),
-            Err(number) => format!("refused {number}\n"),
-        },
-        raw::UNPROVABLE => format!("unprovable\nsteps {steps}\n"),
-        _ => format!("refused {number}\n"),
+    match answer.kind {
+        raw::PROVED => lent.proved_lines(&answer),
+        raw::UNPROVABLE => format!("unprovable\nsteps {}\n", answer.steps),
+        _ => format!("refused {}\n", answer.number),
     }
 }
 

@@ -11,13 +11,21 @@ fn target(what: &str) -> String {
 }
 
 /// Why the crate cannot be built here, if it cannot.
-fn hindrance(archive: &Path) -> Option<String> {
+fn hindrance(folder: &Path) -> Option<String> {
     let [arch, system, width] = ["ARCH", "OS", "POINTER_WIDTH"].map(target);
     if [&*arch, &*system, &*width] != ["x86_64", "linux", "64"] {
         return Some(format!(
             "the library is for x86-64 Linux, not for {arch} {system}; run the program ./quay there"
         ));
     }
+    // the linker runs in a folder of cargo's choice
+    if folder.is_relative() {
+        return Some(format!(
+            "{FOLDER} must be an absolute path, and is {}",
+            folder.display()
+        ));
+    }
+    let archive = folder.join(ARCHIVE);
     if archive.is_file() {
         return None;
     }
@@ -31,10 +39,9 @@ fn hindrance(archive: &Path) -> Option<String> {
 fn main() {
     let here = PathBuf::from(env::var_os("CARGO_MANIFEST_DIR").unwrap_or_default());
     let folder = env::var_os(FOLDER).map_or(here.join("../../target/staticlib"), PathBuf::from);
-    let archive = folder.join(ARCHIVE);
     println!("cargo:rerun-if-env-changed={FOLDER}");
-    println!("cargo:rerun-if-changed={}", archive.display());
-    if let Some(why) = hindrance(&archive) {
+    println!("cargo:rerun-if-changed={}", folder.join(ARCHIVE).display());
+    if let Some(why) = hindrance(&folder) {
         eprintln!("quaysaffron: {why}");
         process::exit(1);
     }

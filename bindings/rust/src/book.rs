@@ -11,7 +11,7 @@ static BOOKS: AtomicU64 = AtomicU64::new(0);
 /// A formula of one [`Book`]: a handle, to be copied at will.
 ///
 /// In another book it is no formula: what is built on it there is refused. Two handles are equal when they are of one book and mean the
-/// same word of it.
+/// same word of it; past the last word that a book can hold all are.
 #[derive(Clone, Copy, Debug, PartialEq, Eq, Hash)]
 pub struct Formula {
     book: u64,

@@ -53,7 +53,8 @@ impl<'b> Claim<'b> {
         self
     }
 
-    /// What a [`Prover`] with the program's limits says of the claim; to ask of many claims, keep a prover.
+    /// What a [`Prover`] with the program's limits says of the claim; to ask of many claims, keep a prover. `Ok` is an answer and no proof:
+    /// it may be [`Unprovable`](Outcome::Unprovable).
     pub fn prove(&self) -> Result<Outcome, Refusal> {
         Prover::new().prove(self)
     }

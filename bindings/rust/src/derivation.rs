@@ -3,14 +3,16 @@ use crate::{raw, Claim, Refusal};
 
 /// A derivation of a claim's goal from its assumptions: all that was found, to be kept or filed.
 ///
-/// It owns the words of the book with those that the search made, the nodes of the term and the names of the assumptions, and needs
-/// neither the book nor the prover any longer. Two are equal when all of that is, and root, steps and names; the text limit is no part
-/// of it. docs/AUDITORS.md tells how the text is read. It is not `Display`, since a text may have no room.
+/// It owns the words of the book with those that the search made, which of them are the goal and the assumptions, the assumptions'
+/// names and the nodes of the term, and needs neither the book nor the prover any longer. Two are equal when all of that is, and root,
+/// steps and names; the text limit is no part of it. docs/AUDITORS.md tells how the text is read. It is not `Display`, since a text may
+/// have no room.
 #[derive(Clone, Debug)]
 pub struct Derivation {
     words: Vec<u32>,
     numbers: Vec<u16>,
-    assumptions: usize,
+    goal: u16,
+    assumed: Vec<u16>,
     names: Vec<u8>,
     answer: raw::Answer,
     room: usize,
@@ -28,7 +30,8 @@ impl Derivation {
         Derivation {
             words: words[..answer.formulas].to_vec(),
             numbers: numbers[..answer.terms * raw::NODE_NUMBERS].to_vec(),
-            assumptions: claim.assumed.len(),
+            goal: claim.goal,
+            assumed: claim.assumed.clone(),
             names: claim.names.clone(),
             answer,
             room,
@@ -63,7 +66,7 @@ impl Derivation {
         let written = raw::text(
             &self.words,
             self.formulas(),
-            self.assumptions,
+            self.assumed.len(),
             &self.names,
             &self.numbers,
             self.terms(),
@@ -111,9 +114,14 @@ impl Derivation {
         &self.numbers
     }
 
-    /// How many assumptions the claim had.
-    pub fn assumptions(&self) -> usize {
-        self.assumptions
+    /// The goal that is derived: the index of its word.
+    pub fn goal(&self) -> usize {
+        self.goal.into()
+    }
+
+    /// The assumptions that it is derived from, each the index of its word.
+    pub fn assumed(&self) -> &[u16] {
+        &self.assumed
     }
 
     /// The assumptions' names, each behind a byte with its length.
@@ -122,16 +130,18 @@ impl Derivation {
     }
 
     /// All but the text limit.
-    fn filed(&self) -> (raw::Answer, usize, &[u8], &[u32], &[u16]) {
+    fn filed(&self) -> (&raw::Answer, [&[u16]; 3], &[u32], &[u8]) {
         let Derivation {
-            answer,
-            assumptions,
-            names,
             words,
             numbers,
+            goal,
+            assumed,
+            names,
+            answer,
             room: _,
         } = self;
-        (*answer, *assumptions, names, words, numbers)
+        let goal = std::slice::from_ref(goal);
+        (answer, [goal, assumed, numbers], words, names)
     }
 }
 
@@ -142,3 +152,40 @@ impl PartialEq for Derivation {
 }
 
 impl Eq for Derivation {}
+
+#[cfg(test)]
+mod tests {
+    use super::*;
+
+    /// What is changed of a derivation makes it another one, but for the text limit.
+    #[test]
+    fn equal_where_all_that_is_filed_is() {
+        let filed = Derivation {
+            words: vec![2],
+            numbers: vec![0; raw::NODE_NUMBERS],
+            goal: 0,
+            assumed: vec![0],
+            names: b"\x01x".to_vec(),
+            answer: raw::Answer::default(),
+            room: 1,
+        };
+        let changes: [fn(&mut Derivation); 8] = [
+            |changed| changed.words[0] += 1,
+            |changed| changed.numbers[1] += 1,
+            |changed| changed.goal += 1,
+            |changed| changed.assumed[0] += 1,
+            |changed| changed.names[1] += 1,
+            |changed| changed.answer.root += 1,
+            |changed| changed.answer.steps += 1,
+            |changed| changed.answer.indices += 1,
+        ];
+        for change in changes {
+            let mut changed = filed.clone();
+            change(&mut changed);
+            assert_ne!(changed, filed);
+        }
+        let mut roomier = filed.clone();
+        roomier.room += 1;
+        assert_eq!(roomier, filed);
+    }
+}

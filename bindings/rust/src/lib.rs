@@ -57,9 +57,12 @@
 //! # What it takes
 //!
 //! Nothing panics, on any input, unless memory runs out. Memory is allocated by a book and a claim as they grow, by a prover when it is
-//! made, by a derivation when it is found and written to a `String`, and by [`output`] and [`name`]; [`Derivation::write`] and all of
-//! [`raw`] allocate nothing. No lock is taken, and nothing is shared between threads but the counter that tells books apart. A thread
-//! that calls needs [`raw::STACK_BYTES`] of stack. The archive that is linked is for x86-64 Linux alone.
+//! made, by a derivation when it is found and written to a `String`, and by [`Claim::to_house_file`], [`output`] and [`name`];
+//! [`Derivation::write`] and all of [`raw`] allocate nothing. No lock is taken, and nothing is shared between threads but the counter
+//! that tells books apart. A thread that calls needs [`raw::STACK_BYTES`] of stack.
+//!
+//! The archive that is linked is for x86-64 Linux alone. `bindings/make library` makes it in the repository, where this crate's build
+//! finds it; `QUAYSAFFRON_LIB`, set to the absolute path of a folder, names another place.
 #![deny(unsafe_code)]
 #![deny(missing_docs)]
 
@@ -101,10 +104,7 @@ pub fn name(index: usize) -> Result<String, Refusal> {
 /// assert_eq!(quaysaffron::output(b"no house file"), b"refused 14\n");
 /// ```
 pub fn output(file: &[u8]) -> Vec<u8> {
-    let mut out = vec![0; raw::OUTPUT_BYTES];
-    let size = out
-        .first_chunk_mut()
-        .map_or(0, |room| raw::output(file, room));
-    out.truncate(size);
-    out
+    let mut out = [0; raw::OUTPUT_BYTES];
+    let size = raw::output(file, &mut out);
+    out[..size].to_vec()
 }

@@ -121,12 +121,13 @@ impl Prover {
         }
     }
 
-    /// What it lends.
+    /// The limits that it was made with.
     pub fn limits(&self) -> Limits {
         self.limits
     }
 
-    /// Searches for a derivation of the claim's goal from its assumptions.
+    /// Searches for a derivation of the claim's goal from its assumptions. `Ok` is an answer and no proof: it may be
+    /// [`Unprovable`](Outcome::Unprovable).
     pub fn prove(&mut self, claim: &Claim) -> Result<Outcome, Refusal> {
         let count = self.lend(claim.book);
         let answer = raw::prove(

@@ -153,8 +153,10 @@ pub const STACK_BYTES: usize = 1_048_576;
 /// A word of no kind, which is refused with [`BAD_FORMULA`] wherever it stands.
 pub const NO_WORD: u32 = 15;
 
-const LEFT_SHIFT: usize = 4;
-const RIGHT_SHIFT: usize = 18;
+/// Where the left field of a word begins, in bits.
+pub const LEFT_SHIFT: usize = 4;
+/// Where its right field begins.
+pub const RIGHT_SHIFT: usize = 18;
 
 /// The word of a formula: kind in the low 4 bits, left in the next 14, right in the top 14. Where one does not fit it is [`NO_WORD`],
 /// so that a symbol or an index out of range becomes a refusal, never another formula.

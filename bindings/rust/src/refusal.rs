@@ -113,7 +113,8 @@ impl Refusal {
         }
     }
 
-    /// Whether a search would have passed a limit: rows 6 to 11. Such a claim may be answered where more is lent.
+    /// Whether a limit would have been passed: rows 6 to 11. Where it is 6, 8 or 9 a prover that lends more may answer, up to
+    /// [`Limits::MOST`](crate::Limits::MOST); the limits of 7, 10 and 11 are fixed.
     pub fn is_shortage(&self) -> bool {
         self.steps().is_some()
     }

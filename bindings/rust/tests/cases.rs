@@ -50,7 +50,12 @@ fn proved() {
         assert_eq!(told, *counts, "{goal}");
         assert_eq!(found.words().len(), found.formulas());
         assert_eq!(found.numbers().len(), raw::NODE_NUMBERS * found.terms());
-        assert_eq!(found.assumptions(), assumed.len());
+        let assumed = case
+            .assumed
+            .iter()
+            .map(|(_, formula)| formula.index() as u16);
+        assert_eq!(found.assumed(), assumed.collect::<Vec<u16>>());
+        assert_eq!(found.goal(), case.goal.index());
     }
 }
 
@@ -106,6 +111,10 @@ fn status() {
         let case = Case::new(&[], goal);
         assert_eq!(prover.status(&case.book, case.goal), Ok(status), "{goal}");
     }
+    let mut book = Book::new();
+    let [closed, free] = [1, 0].map(|less| book.atom(Book::FIRST_FREE_SYMBOL - less));
+    assert_eq!(prover.status(&book, closed), Ok(Status::Unsolvable));
+    assert_eq!(prover.status(&book, free), Ok(Status::Unknown));
 }
 
 /// A shortage in the first search is told, one in the second is Unknown.

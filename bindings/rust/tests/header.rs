@@ -37,7 +37,7 @@ fn as_in_the_header() {
     let rust = constants(include_str!("../src/raw.rs"), in_rust);
     let mut c = constants(&header, in_c);
     // the stack of each call alone is told in C
-    c.retain(|name, _| *name == "STACK_BYTES" || !name.ends_with("_STACK_BYTES"));
+    c.retain(|name, _| !name.ends_with("_STACK_BYTES"));
     assert_eq!(rust, c);
     assert!(rust.len() > 60);
 }

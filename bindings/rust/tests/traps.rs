@@ -222,6 +222,39 @@ fn derivations_differ_by_what_is_filed() {
     assert_eq!(said, Ok(Outcome::Proved(named("x"))));
 }
 
+/// One book, one text, other claims.
+#[test]
+fn derivations_differ_by_their_claims() {
+    let mut book = Book::new();
+    let [one, other] = [0, 1].map(|symbol| book.atom(symbol));
+    let [of_one, of_other] =
+        [one, other].map(|leaf| proved(&Claim::new(&book, leaf).assume("x", leaf)));
+    assert_eq!(of_one.text(), of_other.text());
+    assert_ne!(of_one, of_other);
+    assert_eq!((of_other.goal(), of_other.assumed()), (1, &[1][..]));
+}
+
+/// A text longer than the program's limit, and shorter than the most.
+#[test]
+fn a_long_text() {
+    let mut book = Book::new();
+    let letter = book.atom(0);
+    let mut goal = book.implies(letter, letter);
+    for _ in 0..10 {
+        goal = book.and(goal, goal);
+    }
+    let claim = Claim::new(&book, goal);
+    assert_eq!(proved(&claim).text(), Err(Refusal::NoRoom));
+    let said = Prover::with_limits(Limits::MOST).prove(&claim);
+    let derivation = said.ok().and_then(Outcome::derivation).expect("it follows");
+    let text = derivation.text().expect("room");
+    // each name stands twice
+    let functions: usize = (0..1 << 10)
+        .map(|name| "(fn  )".len() + 2 * (name / 26 + 1))
+        .sum();
+    assert_eq!(text.len(), functions + ((1 << 10) - 1) * "(pair  )".len());
+}
+
 #[test]
 fn a_text_in_a_buffer() {
     let derivation = proved(&Case::new(&[("x", "p0")], "(& p0 p0)").claim());
