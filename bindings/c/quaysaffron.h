@@ -174,7 +174,7 @@ typedef struct {
  *   steps                     the step limit
  *   answer                    is set
  *
- * Returns answer->number. Afterwards:
+ * Returns answer->number: 0 for PROVED and for UNPROVABLE alike, so answer->kind must be looked at. Afterwards:
  *   PROVED              words holds answer->formulas words, the given ones unchanged at the front, terms holds answer->terms nodes; both
  *                       are zero behind them, work is zero
  *   UNPROVABLE, SHORT   words holds the given ones, unchanged, and zero behind them; terms and work are zero
@@ -186,8 +186,8 @@ size_t quaysaffron_prove(uint32_t *words, size_t words_length, size_t count, con
 
 /* The status of a goal without assumptions: SOLVABLE if it is proved; else UNSOLVABLE if no ForAll, Exists or free symbol occurs in it,
  * or if goal->False, for which 2 words are added, is proved; else UNKNOWN. A shortage of the first search is SHORT, one of the second
- * UNKNOWN. Lent and returned as above; refused with 1, 2 and 5 alone. Afterwards words holds the given ones, unchanged, and zero behind
- * them, terms and work are zero; or, if REFUSED, all are unchanged. */
+ * UNKNOWN. Lent as above; refused with 1, 2 and 5 alone. Returns answer->number: 0 for every verdict, so answer->kind must be looked at.
+ * Afterwards words holds the given ones, unchanged, and zero behind them, terms and work are zero; or, if REFUSED, all are unchanged. */
 size_t quaysaffron_status(uint32_t *words, size_t words_length, size_t count, size_t goal, uint16_t *terms, size_t terms_length,
                           quaysaffron_record *work, size_t work_length, size_t steps, quaysaffron_answer *answer);
 
