@@ -95,7 +95,8 @@ extern "C" {
 #define QUAYSAFFRON_UNSOLVABLE 6
 #define QUAYSAFFRON_UNKNOWN 7
 
-/* The numbers that come back. 0 is none of them. Of several refusals the lowest number comes back, but for a text 13 comes before 12. */
+/* The numbers that come back. 0 is none of them. Of several refusals the lowest number comes back, but for a text 13 comes before 12, and
+ * for a house file 14 before all others. */
 #define QUAYSAFFRON_SIZES 1 /* a size above is not kept; count is over words_length, or the nodes are more than terms_length holds */
 #define QUAYSAFFRON_BAD_FORMULA 2 /* place: the lowest word that breaks the layout */
 #define QUAYSAFFRON_BAD_ASSUMPTION 3 /* over 64 (place 64), or place: the first whose formula's index is not below count */
