@@ -1,4 +1,4 @@
-/* Quaysaffron for C and C++: a proved prover for intuitionistic propositional logic.
+/* Quaysaffron for C (C99 or later) and C++: a proved prover for intuitionistic propositional logic.
  *
  * A rule book is an array of words, one a formula; some of them are assumptions with names, one is the goal. quaysaffron_prove answers
  * with a derivation of the goal, or says that there is none, or refuses and names the reason by a number. quaysaffron_text writes the
