@@ -128,6 +128,9 @@ extern "C" {
 /* A word of no kind, which is refused with QUAYSAFFRON_BAD_FORMULA wherever it is given. */
 #define QUAYSAFFRON_NO_WORD UINT32_C(15)
 
+#define QUAYSAFFRON_LEFT_SHIFT 4 /* the lowest bit of left in a word */
+#define QUAYSAFFRON_RIGHT_SHIFT 18 /* the lowest bit of right */
+
 /* The word of a formula: kind in the low 4 bits, left in the next 14, right in the top 14. Where one does not fit it is
  * QUAYSAFFRON_NO_WORD, so that a symbol or an index out of range becomes a refusal, never another formula. */
 static inline uint32_t quaysaffron_word(size_t kind, size_t left, size_t right)
@@ -135,7 +138,7 @@ static inline uint32_t quaysaffron_word(size_t kind, size_t left, size_t right)
     if (kind > QUAYSAFFRON_EXISTS || left > QUAYSAFFRON_LAST_SYMBOL || right > QUAYSAFFRON_LAST_SYMBOL) {
         return QUAYSAFFRON_NO_WORD;
     }
-    return (uint32_t)(kind | left << 4 | right << 18);
+    return (uint32_t)(kind | left << QUAYSAFFRON_LEFT_SHIFT | right << QUAYSAFFRON_RIGHT_SHIFT);
 }
 
 /* A record of the work area. A caller lends 16,384 of them and need not look into one. */

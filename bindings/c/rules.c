@@ -2,6 +2,9 @@
 
 #include <string.h>
 
+/* The bits of a word that hold its kind: all below those of left. */
+enum { KIND_BITS = (1 << QUAYSAFFRON_LEFT_SHIFT) - 1 };
+
 static struct refusal refused(size_t number, size_t place)
 {
     struct refusal refusal = {number, place};
@@ -10,7 +13,9 @@ static struct refusal refused(size_t number, size_t place)
 
 static bool good_word(uint32_t word, size_t index)
 {
-    size_t kind = word & 15, left = word >> 4 & QUAYSAFFRON_LAST_SYMBOL, right = word >> 18;
+    size_t kind = word & KIND_BITS;
+    size_t left = word >> QUAYSAFFRON_LEFT_SHIFT & QUAYSAFFRON_LAST_SYMBOL;
+    size_t right = word >> QUAYSAFFRON_RIGHT_SHIFT;
     switch (kind) {
     case QUAYSAFFRON_TRUE:
     case QUAYSAFFRON_FALSE:
