@@ -2,7 +2,7 @@
 
 #include <string.h>
 
-enum { JUNK = 0xa5, LETTERS = 26 };
+enum { JUNK = 0xa5 };
 
 static quaysaffron_answer junk_answer(void)
 {

@@ -69,6 +69,9 @@ bool text_holds(const struct draft *lent, const uint8_t *text_before, struct wri
 bool name_holds(size_t index, const uint8_t *name, size_t name_length, struct written written);
 bool output_holds(const uint8_t *out, size_t length);
 
+/* What generated names are spelled with: a to z. */
+enum { LETTERS = 26 };
+
 /* Whether a name is that of a generated index: i/26+1 letters, i in base 26, padded in front with a. */
 bool spelled(size_t index, const uint8_t *name, size_t size);
 

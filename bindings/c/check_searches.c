@@ -16,7 +16,10 @@ struct expected {
 
 static const uint8_t junks[] = {0, 0x01, 0xa5, 0xff};
 
-enum { JUNKS = sizeof junks, SPARE_WORDS = 64, SPARE_NODES = 64 };
+enum { JUNKS = sizeof junks };
+
+/* What is lent beyond the book: few nodes, but for the claims that come to the limits of records and of levels. */
+enum { SPARE_WORDS = 64, SPARE_NODES = 64, RECORDS_NODES = 1024, LEVELS_NODES = 128 };
 
 static struct book *start(struct checks *checks)
 {
@@ -365,7 +368,7 @@ static void contexts_and_levels(struct checks *checks)
         struct search lent;
         book->goal = join(book, QUAYSAFFRON_IMPL, all, atom(book, QUAYSAFFRON_FIRST_FREE_SYMBOL - 1));
         lent = ample(checks);
-        lent.terms_length = 1024 * QUAYSAFFRON_NODE_NUMBERS;
+        lent.terms_length = RECORDS_NODES * QUAYSAFFRON_NODE_NUMBERS;
         expect(checks, STATUS_TOO, &lent, "10: 256 records and one more",
                more == 0 ? unprovable(515) : lacking(QUAYSAFFRON_CONTEXTS, 513));
     }
@@ -375,7 +378,7 @@ static void contexts_and_levels(struct checks *checks)
         struct search lent;
         book->goal = chain(book, QUAYSAFFRON_IMPL, p, QUAYSAFFRON_HIGHEST_LEVEL + more, p);
         lent = ample(checks);
-        lent.terms_length = 128 * QUAYSAFFRON_NODE_NUMBERS;
+        lent.terms_length = LEVELS_NODES * QUAYSAFFRON_NODE_NUMBERS;
         expect(checks, STATUS_TOO, &lent, "11: 63 levels and one more", more == 0 ? proved(129) : lacking(QUAYSAFFRON_LEVELS, 64));
     }
 }

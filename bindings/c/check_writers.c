@@ -136,11 +136,12 @@ static void text_rooms(struct checks *checks)
 
 static void names_alone(struct checks *checks)
 {
-    static const size_t indices[] = {0, 25, 26, 51, 52, 78, 363, 364, QUAYSAFFRON_LAST_INDEX};
+    static const size_t indices[] = {0, LETTERS - 1, LETTERS, 2 * LETTERS - 1, 2 * LETTERS, 3 * LETTERS, 14 * LETTERS - 1, 14 * LETTERS,
+                                     QUAYSAFFRON_LAST_INDEX};
     static const size_t over[] = {QUAYSAFFRON_LAST_INDEX + 1, (size_t)1 << 32, SIZE_MAX};
     bool kept;
     for (size_t i = 0; i < sizeof indices / sizeof indices[0]; i++) {
-        size_t letters = indices[i] / 26 + 1;
+        size_t letters = indices[i] / LETTERS + 1;
         for (size_t room = letters - 1; room <= letters + 1; room++) {
             fill(&checks->room, JUNK);
             room_name(&checks->room, indices[i], room, &kept);

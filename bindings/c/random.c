@@ -13,7 +13,8 @@
 #include <stdlib.h>
 #include <string.h>
 
-enum { ENOUGH_CALLS = 100000, NODE = QUAYSAFFRON_NODE_NUMBERS, FILE_ROOM = 2 * QUAYSAFFRON_MOST_FILE_BYTES, NAME_ROOM = 200 };
+enum { DEFAULT_CALLS = 1000000, ENOUGH_CALLS = 100000 };
+enum { NODE = QUAYSAFFRON_NODE_NUMBERS, FILE_ROOM = 2 * QUAYSAFFRON_MOST_FILE_BYTES, NAME_ROOM = 200 };
 
 /* The calls, and what one can come to: a number of the table (0 where there is none to tell), or a kind of answer. */
 enum { PROVE, STATUS_CALL, TEXT, NAME, OUTPUT, TEST_WORDS, TEST_NAMES, CALLS };
@@ -451,7 +452,7 @@ static bool make_room(struct trial *trial)
 int main(int arguments, char **argument)
 {
     static struct trial trial;
-    trial.wanted = arguments > 1 ? strtoul(argument[1], NULL, 10) : 1000000;
+    trial.wanted = arguments > 1 ? strtoul(argument[1], NULL, 10) : DEFAULT_CALLS;
     trial.dice.state = arguments > 2 ? strtoul(argument[2], NULL, 10) : 1;
     if (trial.wanted == 0 || !make_room(&trial)) {
         fputs("usage: random [CALLS [SEED]], with at least one call, and memory for it\n", stderr);
