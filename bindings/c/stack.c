@@ -1,8 +1,11 @@
-/* Measures the stack that each call takes: it runs on a thread whose stack is filled with a pattern, and the bytes from the deepest one
- * that no longer holds it are counted, less those of a thread that does nothing. What is lent stands elsewhere.
+/* Measures the stack that each call takes: on a thread of its own the stack below the frame that calls is filled with a pattern, and right
+ * after the call the bytes are counted from the deepest one that no longer holds it up to that frame. The return address and the
+ * arguments that the stack carries are among them, what is lent stands elsewhere. What a frame keeps free below the deepest byte that is
+ * written is not seen.
  *
  * The stack of a search grows with its levels, that of a text with the nodes on a path, so each way to go up is taken to its limit.
- * A line for each call tells its maximum and the way that took it; a call that takes more than the header says fails. */
+ * A line for each call tells its maximum and the way that took it; a call that takes more than the header says fails, and a measure that
+ * sees no byte. */
 #define _POSIX_C_SOURCE 200809L
 
 #include "books.h"
@@ -20,8 +23,9 @@ static uint32_t words[QUAYSAFFRON_MOST_WORDS];
 static uint16_t terms[QUAYSAFFRON_MOST_NUMBERS];
 static quaysaffron_record work[QUAYSAFFRON_WORK_RECORDS];
 static uint8_t text[TEXT_BYTES], file[2 * QUAYSAFFRON_MOST_FILE_BYTES], out[QUAYSAFFRON_OUTPUT_BYTES];
-static size_t file_length, nodes, number;
+static size_t file_length, nodes, name_index, number, bytes;
 static uint8_t *stack;
+static volatile uint8_t *frame;
 static int failed;
 
 /* A call, its largest measure so far, and what the header says. */
@@ -32,37 +36,52 @@ struct call {
     size_t told;
 };
 
-static void *do_nothing(void *argument)
+/* The two halves of a measure, before and after the call. They stand in the frame that calls: one of their own would lie where the call's
+ * is to be seen. */
+#define INLINE static inline __attribute__((always_inline))
+
+/* Fills the stack below the frame. The stack pointer is that of x86-64, as the library is. */
+INLINE void lay_pattern(void)
 {
-    return argument;
+    __asm__ volatile("mov %%rsp, %0" : "=r"(frame));
+    for (volatile uint8_t *at = stack; at < frame; at++) {
+        *at = PATTERN;
+    }
 }
 
-/* The bytes of stack that a thread takes which does this. */
-static size_t taken(void *(*run)(void *))
+INLINE void count_taken(void)
+{
+    volatile uint8_t *at = stack;
+    while (at < frame && *at == PATTERN) {
+        at++;
+    }
+    bytes = (size_t)(frame - at);
+}
+
+/* Runs both halves and the call between them on a thread. */
+static void run_alone(void *(*run)(void *))
 {
     pthread_attr_t attributes;
     pthread_t thread;
-    size_t untouched = 0;
-    memset(stack, PATTERN, STACK_BYTES);
+    bytes = 0;
     if (pthread_attr_init(&attributes) != 0 || pthread_attr_setstack(&attributes, stack, STACK_BYTES) != 0
         || pthread_create(&thread, &attributes, run, NULL) != 0 || pthread_join(thread, NULL) != 0) {
         fputs("no thread\n", stderr);
         exit(1);
     }
     pthread_attr_destroy(&attributes);
-    while (untouched < STACK_BYTES && stack[untouched] == PATTERN) {
-        untouched++;
-    }
-    return STACK_BYTES - untouched;
 }
 
-/* Measures one way; a call that ends in another number than the way leads to does not count. */
+/* Measures one way; a call that ends in another number than the way leads to fails, and so does one that was not seen. */
 static void measure(struct call *call, const char *way, void *(*run)(void *), size_t expected)
 {
-    size_t with = taken(run), without = taken(do_nothing);
-    size_t bytes = without < with ? with - without : 0;
+    run_alone(run);
     if (number != expected) {
         printf("%s, %s: number %zu, not %zu\n", call->name, way, number, expected);
+        failed = 1;
+    }
+    if (bytes == 0) {
+        printf("%s, %s: no byte of stack seen\n", call->name, way);
         failed = 1;
     }
     if (call->bytes <= bytes) {
@@ -74,52 +93,68 @@ static void measure(struct call *call, const char *way, void *(*run)(void *), si
 static void *run_prove(void *argument)
 {
     quaysaffron_answer answer;
+    lay_pattern();
     number = quaysaffron_prove(words, QUAYSAFFRON_MOST_WORDS, book.count, book.assumed, book.assumptions, book.names, book.names_length,
                                book.goal, terms, QUAYSAFFRON_MOST_NUMBERS, work, QUAYSAFFRON_WORK_RECORDS, QUAYSAFFRON_MOST_STEPS,
                                &answer);
+    count_taken();
     return argument;
 }
 
 static void *run_status(void *argument)
 {
     quaysaffron_answer answer;
+    lay_pattern();
     number = quaysaffron_status(words, QUAYSAFFRON_MOST_WORDS, book.count, book.goal, terms, QUAYSAFFRON_MOST_NUMBERS, work,
                                 QUAYSAFFRON_WORK_RECORDS, QUAYSAFFRON_MOST_STEPS, &answer);
+    count_taken();
     return argument;
 }
 
 static void *run_text(void *argument)
 {
     size_t size, place;
+    lay_pattern();
     number = quaysaffron_text(words, QUAYSAFFRON_MOST_WORDS, book.count, book.assumptions, book.names, book.names_length, terms,
                               QUAYSAFFRON_MOST_NUMBERS, nodes, nodes - 1, text, TEXT_BYTES, &size, &place);
+    count_taken();
     return argument;
 }
 
 static void *run_output(void *argument)
 {
-    number = printed_refusal(out, quaysaffron_output(file, file_length, out));
+    size_t length;
+    lay_pattern();
+    length = quaysaffron_output(file, file_length, out);
+    count_taken();
+    number = printed_refusal(out, length);
     return argument;
 }
 
 static void *run_name(void *argument)
 {
     size_t size;
-    number = quaysaffron_name(QUAYSAFFRON_LAST_INDEX, text, TEXT_BYTES, &size);
+    lay_pattern();
+    number = quaysaffron_name(name_index, text, TEXT_BYTES, &size);
+    count_taken();
     return argument;
 }
 
 static void *run_test_words(void *argument)
 {
     size_t place;
+    lay_pattern();
     number = quaysaffron_test_words(words, QUAYSAFFRON_MOST_WORDS, book.count, &place);
+    count_taken();
     return argument;
 }
 
 static void *run_test_names(void *argument)
 {
     size_t place;
+    lay_pattern();
     number = quaysaffron_test_names(book.names, book.names_length, book.assumptions, &place);
+    count_taken();
     return argument;
 }
 
@@ -369,7 +404,10 @@ static void measure_ascribed(struct call *call)
 
 static void measure_tests(struct call *name, struct call *test_words, struct call *test_names)
 {
+    name_index = QUAYSAFFRON_LAST_INDEX;
     measure(name, "the last index", run_name, 0);
+    name_index = QUAYSAFFRON_LAST_INDEX + 1;
+    measure(name, "an index that is too high", run_name, QUAYSAFFRON_NAMES);
     clear(&book);
     (void)chain(&book, QUAYSAFFRON_AND, falsity(&book), QUAYSAFFRON_MOST_WORDS - 1, 0);
     memcpy(words, book.words, sizeof words);
