@@ -157,15 +157,27 @@ static void names_alone(struct checks *checks)
     }
 }
 
-/* Asks the test of words, which changes none. */
-static void expect_words(struct checks *checks, size_t length, size_t count, const char *what, size_t number, size_t place)
+/* One of the two tests, over the front of what is lent. */
+typedef size_t test_call(const struct slices *lent, size_t length, size_t count, size_t *place);
+
+static size_t of_words(const struct slices *lent, size_t length, size_t count, size_t *place)
+{
+    return quaysaffron_test_words(length == 0 ? QUAYSAFFRON_EMPTY(uint32_t) : lent->words, length, count, place);
+}
+
+static size_t of_names(const struct slices *lent, size_t length, size_t names, size_t *place)
+{
+    return quaysaffron_test_names(length == 0 ? QUAYSAFFRON_EMPTY(uint8_t) : lent->text, length, names, place);
+}
+
+/* Asks a test, which changes nothing. */
+static void expect_test(struct checks *checks, test_call *test, size_t length, size_t count, const char *what, size_t number, size_t place)
 {
     struct room *room = &checks->room;
-    const uint32_t *words = length == 0 ? QUAYSAFFRON_EMPTY(uint32_t) : room->lent.words;
-    size_t told = JUNK, returned;
+    size_t at = JUNK, returned;
     room->before = room->lent;
-    returned = quaysaffron_test_words(words, length, count, &told);
-    check(checks, returned == number && told == place && memcmp(&room->before, &room->lent, sizeof room->lent) == 0, what);
+    returned = test(&room->lent, length, count, &at);
+    check(checks, returned == number && at == place && memcmp(&room->before, &room->lent, sizeof room->lent) == 0, what);
 }
 
 static void test_words(struct checks *checks)
@@ -173,34 +185,23 @@ static void test_words(struct checks *checks)
     enum { LAST = QUAYSAFFRON_MOST_WORDS - 1 };
     uint32_t *words = checks->room.lent.words;
     fill(&checks->room, JUNK);
-    expect_words(checks, 0, 0, "no word", 0, 0);
-    expect_words(checks, 0, SIZE_MAX, "no word of many", 0, 0);
+    expect_test(checks, of_words, 0, 0, "no word", 0, 0);
+    expect_test(checks, of_words, 0, SIZE_MAX, "no word of many", 0, 0);
     for (size_t i = 0; i < QUAYSAFFRON_MOST_WORDS; i++) {
         words[i] = quaysaffron_word(i % (QUAYSAFFRON_EXISTS + 1), 0, 0);
     }
     words[3] = quaysaffron_word(QUAYSAFFRON_AND, 2, 2);
     words[LAST] = quaysaffron_word(QUAYSAFFRON_OR, LAST - 1, LAST - 1);
-    expect_words(checks, QUAYSAFFRON_MOST_WORDS, QUAYSAFFRON_MOST_WORDS, "16,384 words", 0, 0);
+    expect_test(checks, of_words, QUAYSAFFRON_MOST_WORDS, QUAYSAFFRON_MOST_WORDS, "16,384 words", 0, 0);
     words[LAST] = quaysaffron_word(QUAYSAFFRON_OR, LAST - 1, LAST);
-    expect_words(checks, QUAYSAFFRON_MOST_WORDS, QUAYSAFFRON_MOST_WORDS, "2: the last of 16,384", QUAYSAFFRON_BAD_FORMULA, LAST);
-    expect_words(checks, QUAYSAFFRON_MOST_WORDS, QUAYSAFFRON_MOST_WORDS - 1, "a word behind the count", 0, 0);
-    expect_words(checks, QUAYSAFFRON_MOST_WORDS, SIZE_MAX, "2: looked at whole", QUAYSAFFRON_BAD_FORMULA, LAST);
+    expect_test(checks, of_words, QUAYSAFFRON_MOST_WORDS, QUAYSAFFRON_MOST_WORDS, "2: the last of 16,384", QUAYSAFFRON_BAD_FORMULA, LAST);
+    expect_test(checks, of_words, QUAYSAFFRON_MOST_WORDS, QUAYSAFFRON_MOST_WORDS - 1, "a word behind the count", 0, 0);
+    expect_test(checks, of_words, QUAYSAFFRON_MOST_WORDS, SIZE_MAX, "2: looked at whole", QUAYSAFFRON_BAD_FORMULA, LAST);
     words[3] = quaysaffron_word(QUAYSAFFRON_AND, 2, 3);
-    expect_words(checks, 16, 4, "2: the last of four", QUAYSAFFRON_BAD_FORMULA, 3);
-    expect_words(checks, 16, 3, "three of four", 0, 0);
-    expect_words(checks, 4, 5, "2: more counted than there are", QUAYSAFFRON_BAD_FORMULA, 3);
-    expect_words(checks, 3, 5, "more counted than there are", 0, 0);
-}
-
-/* Asks the test of names over so many bytes of the text, which changes none. */
-static void expect_names(struct checks *checks, size_t length, size_t names, const char *what, size_t number, size_t place)
-{
-    struct room *room = &checks->room;
-    const uint8_t *text = length == 0 ? QUAYSAFFRON_EMPTY(uint8_t) : room->lent.text;
-    size_t told = JUNK, returned;
-    room->before = room->lent;
-    returned = quaysaffron_test_names(text, length, names, &told);
-    check(checks, returned == number && told == place && memcmp(&room->before, &room->lent, sizeof room->lent) == 0, what);
+    expect_test(checks, of_words, 16, 4, "2: the last of four", QUAYSAFFRON_BAD_FORMULA, 3);
+    expect_test(checks, of_words, 16, 3, "three of four", 0, 0);
+    expect_test(checks, of_words, 4, 5, "2: more counted than there are", QUAYSAFFRON_BAD_FORMULA, 3);
+    expect_test(checks, of_words, 3, 5, "more counted than there are", 0, 0);
 }
 
 static void test_names(struct checks *checks)
@@ -208,30 +209,30 @@ static void test_names(struct checks *checks)
     enum { MOST = QUAYSAFFRON_MOST_ASSUMPTIONS, NAMES = 4 * MOST, ENTRY = 3 };
     uint8_t *text = checks->room.lent.text;
     fill(&checks->room, JUNK);
-    expect_names(checks, 0, 0, "no name", 0, 0);
-    expect_names(checks, 0, 1, "4: a name that is not there", QUAYSAFFRON_BAD_NAMES, 0);
-    expect_names(checks, 0, SIZE_MAX, "4: the most names", QUAYSAFFRON_BAD_NAMES, 0);
+    expect_test(checks, of_names, 0, 0, "no name", 0, 0);
+    expect_test(checks, of_names, 0, 1, "4: a name that is not there", QUAYSAFFRON_BAD_NAMES, 0);
+    expect_test(checks, of_names, 0, SIZE_MAX, "4: the most names", QUAYSAFFRON_BAD_NAMES, 0);
     for (size_t i = 0; i < NAMES; i++) {
         text[ENTRY * i] = 2;
         text[ENTRY * i + 1] = (uint8_t)('a' + i / 16);
         text[ENTRY * i + 2] = (uint8_t)('A' + i % 16);
     }
-    expect_names(checks, ENTRY * NAMES, NAMES, "any number of names", 0, 0);
-    expect_names(checks, ENTRY * MOST, MOST, "64 names", 0, 0);
-    expect_names(checks, ENTRY * MOST, MOST - 1, "4: one more than asked for", QUAYSAFFRON_BAD_NAMES, MOST - 1);
-    expect_names(checks, ENTRY * MOST, MOST + 1, "4: one less than asked for", QUAYSAFFRON_BAD_NAMES, MOST);
-    expect_names(checks, ENTRY * MOST - 1, MOST, "4: the last one cut", QUAYSAFFRON_BAD_NAMES, MOST - 1);
-    expect_names(checks, ENTRY * MOST - 1, SIZE_MAX, "4: the most names", QUAYSAFFRON_BAD_NAMES, MOST - 1);
-    expect_names(checks, ENTRY * MOST + 1, MOST, "4: a byte behind the last one", QUAYSAFFRON_BAD_NAMES, MOST);
+    expect_test(checks, of_names, ENTRY * NAMES, NAMES, "any number of names", 0, 0);
+    expect_test(checks, of_names, ENTRY * MOST, MOST, "64 names", 0, 0);
+    expect_test(checks, of_names, ENTRY * MOST, MOST - 1, "4: one more than asked for", QUAYSAFFRON_BAD_NAMES, MOST - 1);
+    expect_test(checks, of_names, ENTRY * MOST, MOST + 1, "4: one less than asked for", QUAYSAFFRON_BAD_NAMES, MOST);
+    expect_test(checks, of_names, ENTRY * MOST - 1, MOST, "4: the last one cut", QUAYSAFFRON_BAD_NAMES, MOST - 1);
+    expect_test(checks, of_names, ENTRY * MOST - 1, SIZE_MAX, "4: the most names", QUAYSAFFRON_BAD_NAMES, MOST - 1);
+    expect_test(checks, of_names, ENTRY * MOST + 1, MOST, "4: a byte behind the last one", QUAYSAFFRON_BAD_NAMES, MOST);
     memcpy(text + ENTRY * (MOST - 1), text, ENTRY);
-    expect_names(checks, ENTRY * MOST, MOST, "4: the last one repeats the first", QUAYSAFFRON_BAD_NAMES, MOST - 1);
+    expect_test(checks, of_names, ENTRY * MOST, MOST, "4: the last one repeats the first", QUAYSAFFRON_BAD_NAMES, MOST - 1);
     text[ENTRY * 5 + 1] = '-';
-    expect_names(checks, ENTRY * MOST, MOST, "4: the first of two faults", QUAYSAFFRON_BAD_NAMES, 5);
+    expect_test(checks, of_names, ENTRY * MOST, MOST, "4: the first of two faults", QUAYSAFFRON_BAD_NAMES, 5);
     text[0] = QUAYSAFFRON_MOST_NAME_BYTES;
     memset(text + 1, 'x', QUAYSAFFRON_MOST_NAME_BYTES + 1);
-    expect_names(checks, 1 + QUAYSAFFRON_MOST_NAME_BYTES, 1, "32 bytes", 0, 0);
+    expect_test(checks, of_names, 1 + QUAYSAFFRON_MOST_NAME_BYTES, 1, "32 bytes", 0, 0);
     text[0] = QUAYSAFFRON_MOST_NAME_BYTES + 1;
-    expect_names(checks, 2 + QUAYSAFFRON_MOST_NAME_BYTES, 1, "4: 33 bytes", QUAYSAFFRON_BAD_NAMES, 0);
+    expect_test(checks, of_names, 2 + QUAYSAFFRON_MOST_NAME_BYTES, 1, "4: 33 bytes", QUAYSAFFRON_BAD_NAMES, 0);
 }
 
 /* Each byte as a name of its own: 63 are lawful. */
@@ -241,7 +242,7 @@ static void name_bytes(struct checks *checks)
         bool lawful = ('0' <= byte && byte <= '9') || ('A' <= byte && byte <= 'Z') || ('a' <= byte && byte <= 'z') || byte == '_';
         checks->room.lent.text[0] = 1;
         checks->room.lent.text[1] = (uint8_t)byte;
-        expect_names(checks, 2, 1, "a name of one byte", lawful ? 0 : QUAYSAFFRON_BAD_NAMES, 0);
+        expect_test(checks, of_names, 2, 1, "a name of one byte", lawful ? 0 : QUAYSAFFRON_BAD_NAMES, 0);
     }
 }
 
