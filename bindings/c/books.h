@@ -4,12 +4,12 @@
 
 #include "calls.h"
 
-enum { BOOK_ASSUMPTIONS = QUAYSAFFRON_MOST_ASSUMPTIONS + 1, BOOK_NAMES = BOOK_ASSUMPTIONS * (1 + UINT8_MAX) };
+enum { BOOK_NAMES = TOO_MANY_ASSUMPTIONS * (1 + UINT8_MAX) };
 
 struct book {
     uint32_t words[QUAYSAFFRON_MOST_WORDS];
     size_t count;
-    uint16_t assumed[BOOK_ASSUMPTIONS];
+    uint16_t assumed[TOO_MANY_ASSUMPTIONS];
     size_t assumptions;
     uint8_t names[BOOK_NAMES];
     size_t names_length;

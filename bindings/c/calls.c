@@ -2,12 +2,10 @@
 
 #include <string.h>
 
-enum { JUNK = 0xa5 };
-
 static quaysaffron_answer junk_answer(void)
 {
     quaysaffron_answer answer;
-    memset(&answer, JUNK, sizeof answer);
+    memset(&answer, JUNK_BYTE, sizeof answer);
     return answer;
 }
 
@@ -28,7 +26,7 @@ size_t ask_status(const struct search *lent, quaysaffron_answer *answer)
 
 struct written ask_text(const struct draft *lent)
 {
-    struct written written = {JUNK, JUNK, JUNK};
+    struct written written = {JUNK_BYTE, JUNK_BYTE, JUNK_BYTE};
     written.number = quaysaffron_text(lent->words, lent->words_length, lent->count, lent->assumptions, lent->names, lent->names_length,
                                       lent->terms, lent->terms_length, lent->nodes, lent->root, lent->text, lent->text_length,
                                       &written.size, &written.place);
@@ -37,7 +35,7 @@ struct written ask_text(const struct draft *lent)
 
 struct written ask_name(size_t index, uint8_t *name, size_t name_length)
 {
-    struct written written = {JUNK, JUNK, 0};
+    struct written written = {JUNK_BYTE, JUNK_BYTE, 0};
     written.number = quaysaffron_name(index, name, name_length, &written.size);
     return written;
 }
@@ -74,7 +72,7 @@ static bool unchanged(const struct search *lent, const struct before *before)
 static bool sizes_hold(const struct search *lent)
 {
     return lent->count <= lent->words_length && lent->words_length <= QUAYSAFFRON_MOST_WORDS
-        && lent->terms_length <= QUAYSAFFRON_MOST_NUMBERS && lent->terms_length % QUAYSAFFRON_NODE_NUMBERS == 0
+        && lent->terms_length <= QUAYSAFFRON_MOST_NUMBERS && lent->terms_length % NODE == 0
         && lent->work_length == QUAYSAFFRON_WORK_RECORDS && lent->steps <= QUAYSAFFRON_MOST_STEPS && lent->goal < lent->count;
 }
 
@@ -89,9 +87,9 @@ static bool proved_holds(const struct search *lent, const struct before *before,
     bool numbers = answer->number == 0 && answer->place == 0 && answer->root < answer->terms && 0 < answer->steps
         && answer->steps <= lent->steps && answer->indices <= QUAYSAFFRON_LAST_INDEX + 1;
     bool fills = lent->count <= answer->formulas && answer->formulas <= lent->words_length
-        && answer->terms <= lent->terms_length / QUAYSAFFRON_NODE_NUMBERS;
+        && answer->terms <= lent->terms_length / NODE;
     return numbers && fills && sizes_hold(lent) && words_stand(lent, before, lent->count)
-        && zero_above(lent, answer->formulas, answer->terms * QUAYSAFFRON_NODE_NUMBERS);
+        && zero_above(lent, answer->formulas, answer->terms * NODE);
 }
 
 static bool unprovable_holds(const struct search *lent, const struct before *before, const quaysaffron_answer *answer)

@@ -6,6 +6,9 @@
 
 #include <stdbool.h>
 
+/* A byte of junk, the numbers of a node, and one assumption more than a call takes. */
+enum { JUNK_BYTE = 0xa5, NODE = QUAYSAFFRON_NODE_NUMBERS, TOO_MANY_ASSUMPTIONS = QUAYSAFFRON_MOST_ASSUMPTIONS + 1 };
+
 /* What a search is lent; a status leaves out the assumptions and the names. */
 struct search {
     uint32_t *words;

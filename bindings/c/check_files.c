@@ -7,7 +7,7 @@
 #include <stdio.h>
 #include <string.h>
 
-enum { JUNK = 0xa5, NUMBERS = QUAYSAFFRON_BAD_FILE + 1, PATH_BYTES = 4096, FILE_ROOM = QUAYSAFFRON_MOST_FILE_BYTES + 1 };
+enum { NUMBERS = QUAYSAFFRON_BAD_FILE + 1, PATH_BYTES = 4096, FILE_ROOM = QUAYSAFFRON_MOST_FILE_BYTES + 1 };
 
 static const char ending[] = ".house";
 
@@ -33,7 +33,7 @@ static void check_file(struct checks *checks, const char *path, size_t met[NUMBE
     bool kept;
     snprintf(out, sizeof out, "%.*s.out", (int)(strlen(path) - (sizeof ending - 1)), path);
     expected_length = read_file(out, expected, sizeof expected);
-    fill(&checks->room, JUNK);
+    fill(&checks->room, JUNK_BYTE);
     printed = room_output(&checks->room, file, length, &kept);
     check(checks, kept && 0 < printed && printed == expected_length && memcmp(checks->room.lent.text, expected, printed) == 0, path);
     met[printed_refusal(expected, expected_length) % NUMBERS]++;
@@ -64,7 +64,7 @@ static void expect(struct checks *checks, const uint8_t *file, size_t length, co
 {
     bool kept;
     size_t printed;
-    fill(&checks->room, JUNK);
+    fill(&checks->room, JUNK_BYTE);
     printed = room_output(&checks->room, file, length, &kept);
     check(checks, kept && printed_refusal(checks->room.lent.text, printed) == number, what);
 }

@@ -14,7 +14,7 @@ struct expected {
     size_t steps;
 };
 
-static const uint8_t junks[] = {0, 0x01, 0xa5, 0xff};
+static const uint8_t junks[] = {0, 0x01, JUNK_BYTE, 0xff};
 
 enum { JUNKS = sizeof junks };
 
@@ -42,7 +42,7 @@ static struct search ample(struct checks *checks)
     lent.names_length = book->names_length;
     lent.goal = book->goal;
     lent.terms = room->terms;
-    lent.terms_length = SPARE_NODES * QUAYSAFFRON_NODE_NUMBERS;
+    lent.terms_length = SPARE_NODES * NODE;
     lent.work = room->work;
     lent.work_length = QUAYSAFFRON_WORK_RECORDS;
     lent.steps = QUAYSAFFRON_MOST_STEPS;
@@ -147,7 +147,7 @@ static void lengths_of_words(struct checks *checks)
 static void lengths_of_terms(struct checks *checks)
 {
     static const size_t wrong[] = {1, 5, 7, 11, QUAYSAFFRON_MOST_NUMBERS - 1, QUAYSAFFRON_MOST_NUMBERS + 1,
-                                   QUAYSAFFRON_MOST_NUMBERS + QUAYSAFFRON_NODE_NUMBERS};
+                                   QUAYSAFFRON_MOST_NUMBERS + NODE};
     struct search lent;
     lay_identity(checks);
     lent = ample(checks);
@@ -237,7 +237,7 @@ static void assumptions(struct checks *checks)
     assume_next(book, UINT16_MAX);
     lent = ample(checks);
     expect(checks, PROVE, &lent, "3: an index that is the count", refused(QUAYSAFFRON_BAD_ASSUMPTION, 1));
-    for (size_t i = book->assumptions; i < QUAYSAFFRON_MOST_ASSUMPTIONS + 1; i++) {
+    for (size_t i = book->assumptions; i < TOO_MANY_ASSUMPTIONS; i++) {
         assume_next(book, 0);
     }
     lent = ample(checks);
@@ -247,7 +247,7 @@ static void assumptions(struct checks *checks)
     book->assumed[2] = 0;
     lent.assumed_length = QUAYSAFFRON_MOST_ASSUMPTIONS;
     lent.names_length -= 4;
-    lent.terms_length = QUAYSAFFRON_MOST_ASSUMPTIONS * QUAYSAFFRON_NODE_NUMBERS;
+    lent.terms_length = QUAYSAFFRON_MOST_ASSUMPTIONS * NODE;
     expect(checks, PROVE, &lent, "64 assumptions", proved(67));
 }
 
@@ -319,9 +319,9 @@ static void steps_and_terms(struct checks *checks)
     lent.terms_length = 0;
     expect(checks, STATUS_TOO, &lent, "9: no node", lacking(QUAYSAFFRON_TERMS, 1));
     lent.terms = checks->room.lent.terms;
-    lent.terms_length = QUAYSAFFRON_NODE_NUMBERS;
+    lent.terms_length = NODE;
     expect(checks, STATUS_TOO, &lent, "9: a node too few", lacking(QUAYSAFFRON_TERMS, 5));
-    lent.terms_length = 2 * QUAYSAFFRON_NODE_NUMBERS;
+    lent.terms_length = 2 * NODE;
     expect(checks, STATUS_TOO, &lent, "as many nodes as are needed", proved(5));
 }
 
@@ -368,7 +368,7 @@ static void contexts_and_levels(struct checks *checks)
         struct search lent;
         book->goal = join(book, QUAYSAFFRON_IMPL, all, atom(book, QUAYSAFFRON_FIRST_FREE_SYMBOL - 1));
         lent = ample(checks);
-        lent.terms_length = RECORDS_NODES * QUAYSAFFRON_NODE_NUMBERS;
+        lent.terms_length = RECORDS_NODES * NODE;
         expect(checks, STATUS_TOO, &lent, "10: 256 records and one more",
                more == 0 ? unprovable(515) : lacking(QUAYSAFFRON_CONTEXTS, 513));
     }
@@ -378,7 +378,7 @@ static void contexts_and_levels(struct checks *checks)
         struct search lent;
         book->goal = chain(book, QUAYSAFFRON_IMPL, p, QUAYSAFFRON_HIGHEST_LEVEL + more, p);
         lent = ample(checks);
-        lent.terms_length = LEVELS_NODES * QUAYSAFFRON_NODE_NUMBERS;
+        lent.terms_length = LEVELS_NODES * NODE;
         expect(checks, STATUS_TOO, &lent, "11: 63 levels and one more", more == 0 ? proved(129) : lacking(QUAYSAFFRON_LEVELS, 64));
     }
 }

@@ -3,8 +3,6 @@
 
 #include <string.h>
 
-enum { JUNK = 0xa5, NODE = QUAYSAFFRON_NODE_NUMBERS };
-
 /* What the drafts below begin with: p0, assumed as x; the nodes x, (pair x x), (as (pair x x) p0). */
 static const uint16_t ascribed_pair[] = {QUAYSAFFRON_IDENT, 0, 0, 0, 0, 0, QUAYSAFFRON_PAIR, 0, 0, 0, 0, 0,
                                          QUAYSAFFRON_ASCRIPTION, 1, 0, 0, 0, 0};
@@ -16,7 +14,7 @@ static struct draft start(struct checks *checks)
 {
     struct slices *room = &checks->room.lent;
     struct draft lent = {room->words, 1, 1, 1, (const uint8_t *)"\1x", 2, room->terms, NODES * NODE, NODES, NODES - 1, room->text, 64};
-    fill(&checks->room, JUNK);
+    fill(&checks->room, JUNK_BYTE);
     room->words[0] = quaysaffron_word(QUAYSAFFRON_ATOM, 0, 0);
     memcpy(room->terms, ascribed_pair, sizeof ascribed_pair);
     return lent;
@@ -63,7 +61,7 @@ static void text_books(struct checks *checks)
     checks->room.lent.words[2] = QUAYSAFFRON_NO_WORD;
     expect(checks, &lent, "text, 2: a word", QUAYSAFFRON_BAD_FORMULA, 2);
     lent = start(checks);
-    lent.assumptions = QUAYSAFFRON_MOST_ASSUMPTIONS + 1;
+    lent.assumptions = TOO_MANY_ASSUMPTIONS;
     expect(checks, &lent, "text, 3: 65 assumptions", QUAYSAFFRON_BAD_ASSUMPTION, QUAYSAFFRON_MOST_ASSUMPTIONS);
     lent.assumptions = SIZE_MAX;
     expect(checks, &lent, "text, 3: the most assumptions", QUAYSAFFRON_BAD_ASSUMPTION, QUAYSAFFRON_MOST_ASSUMPTIONS);
@@ -143,14 +141,14 @@ static void names_alone(struct checks *checks)
     for (size_t i = 0; i < sizeof indices / sizeof indices[0]; i++) {
         size_t letters = indices[i] / LETTERS + 1;
         for (size_t room = letters - 1; room <= letters + 1; room++) {
-            fill(&checks->room, JUNK);
+            fill(&checks->room, JUNK_BYTE);
             room_name(&checks->room, indices[i], room, &kept);
             check(checks, kept, "a name in a byte too few, just enough and one more");
         }
     }
     for (size_t i = 0; i < sizeof over / sizeof over[0]; i++) {
         for (size_t room = 0; room <= QUAYSAFFRON_MOST_GENERATED_BYTES + 1; room++) {
-            fill(&checks->room, JUNK);
+            fill(&checks->room, JUNK_BYTE);
             room_name(&checks->room, over[i], room, &kept);
             check(checks, kept, "name, 7: an index that is too high, whatever the room");
         }
@@ -174,7 +172,7 @@ static size_t of_names(const struct slices *lent, size_t length, size_t names, s
 static void expect_test(struct checks *checks, test_call *test, size_t length, size_t count, const char *what, size_t number, size_t place)
 {
     struct room *room = &checks->room;
-    size_t at = JUNK, returned;
+    size_t at = JUNK_BYTE, returned;
     room->before = room->lent;
     returned = test(&room->lent, length, count, &at);
     check(checks, returned == number && at == place && memcmp(&room->before, &room->lent, sizeof room->lent) == 0, what);
@@ -184,7 +182,7 @@ static void test_words(struct checks *checks)
 {
     enum { LAST = QUAYSAFFRON_MOST_WORDS - 1 };
     uint32_t *words = checks->room.lent.words;
-    fill(&checks->room, JUNK);
+    fill(&checks->room, JUNK_BYTE);
     expect_test(checks, of_words, 0, 0, "no word", 0, 0);
     expect_test(checks, of_words, 0, SIZE_MAX, "no word of many", 0, 0);
     for (size_t i = 0; i < QUAYSAFFRON_MOST_WORDS; i++) {
@@ -208,7 +206,7 @@ static void test_names(struct checks *checks)
 {
     enum { MOST = QUAYSAFFRON_MOST_ASSUMPTIONS, NAMES = 4 * MOST, ENTRY = 3 };
     uint8_t *text = checks->room.lent.text;
-    fill(&checks->room, JUNK);
+    fill(&checks->room, JUNK_BYTE);
     expect_test(checks, of_names, 0, 0, "no name", 0, 0);
     expect_test(checks, of_names, 0, 1, "4: a name that is not there", QUAYSAFFRON_BAD_NAMES, 0);
     expect_test(checks, of_names, 0, SIZE_MAX, "4: the most names", QUAYSAFFRON_BAD_NAMES, 0);

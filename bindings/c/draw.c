@@ -4,8 +4,6 @@
 
 #include <string.h>
 
-enum { NODE = QUAYSAFFRON_NODE_NUMBERS };
-
 /* splitmix64, which takes every seed */
 uint64_t draw(struct dice *dice)
 {
@@ -196,7 +194,7 @@ void damage_names(struct dice *dice, struct book *book)
 static void damage_assumptions(struct dice *dice, struct book *book)
 {
     if (book->assumptions == 0 || once_in(dice, 3)) {
-        while (book->assumptions < QUAYSAFFRON_MOST_ASSUMPTIONS + 1) {
+        while (book->assumptions < TOO_MANY_ASSUMPTIONS) {
             assume_next(book, 0);
         }
         return;

@@ -23,6 +23,6 @@ void damage_names(struct dice *dice, struct book *book);
 
 /* Lawful nodes over a book with assumptions, and how many; a generated name may be one that an assumption has. */
 enum { DRAWN_NODES = QUAYSAFFRON_MOST_PATH + 64 };
-size_t draw_nodes(struct dice *dice, const struct book *book, uint16_t nodes[DRAWN_NODES * QUAYSAFFRON_NODE_NUMBERS]);
+size_t draw_nodes(struct dice *dice, const struct book *book, uint16_t nodes[DRAWN_NODES * NODE]);
 
 #endif

@@ -166,7 +166,7 @@ static struct search lent_to_search(const struct list *list, struct row row, str
     lent.words_length = at_most(field(list, row.at, WORDS), ROOM_WORDS);
     lent.count = field(list, row.book, BOOK_WORDS) + field(list, row.at, SURPLUS);
     lent.assumed = room->assumed;
-    lent.assumed_length = at_most(field(list, row.book, BOOK_ASSUMPTIONS), ROOM_ASSUMPTIONS);
+    lent.assumed_length = at_most(field(list, row.book, BOOK_ASSUMPTIONS), TOO_MANY_ASSUMPTIONS);
     lent.names = names_of(list, row.book);
     lent.names_length = field(list, row.book, BOOK_NAMES);
     lent.goal = field(list, row.at, GOAL);

@@ -14,7 +14,7 @@
 #include <string.h>
 
 enum { DEFAULT_CALLS = 1000000, ENOUGH_CALLS = 100000 };
-enum { NODE = QUAYSAFFRON_NODE_NUMBERS, FILE_ROOM = 2 * QUAYSAFFRON_MOST_FILE_BYTES, NAME_ROOM = 200 };
+enum { FILE_ROOM = 2 * QUAYSAFFRON_MOST_FILE_BYTES, NAME_ROOM = 200 };
 
 /* The calls, and what one can come to: a number of the table (0 where there is none to tell), or a kind of answer. */
 enum { PROVE, STATUS_CALL, TEXT, NAME, OUTPUT, TEST_WORDS, TEST_NAMES, CALLS };
@@ -286,7 +286,7 @@ static void damage_draft(struct trial *trial, struct draft *lent, uint16_t *term
         lent->root = lent->nodes + (once_in(dice, 2) ? 0 : draw(dice) / 2);
         break;
     case 3:
-        lent->assumptions = once_in(dice, 2) ? QUAYSAFFRON_MOST_ASSUMPTIONS + 1 : draw(dice);
+        lent->assumptions = once_in(dice, 2) ? TOO_MANY_ASSUMPTIONS : draw(dice);
         break;
     case 4:
         lent->terms_length -= 1 + below(dice, NODE);

@@ -7,9 +7,8 @@
 
 enum {
     ROOM_WORDS = QUAYSAFFRON_MOST_WORDS + 2,
-    ROOM_NUMBERS = QUAYSAFFRON_MOST_NUMBERS + 2 * QUAYSAFFRON_NODE_NUMBERS,
+    ROOM_NUMBERS = QUAYSAFFRON_MOST_NUMBERS + 2 * NODE,
     ROOM_RECORDS = QUAYSAFFRON_WORK_RECORDS + 2,
-    ROOM_ASSUMPTIONS = QUAYSAFFRON_MOST_ASSUMPTIONS + 1,
     ROOM_TEXT = QUAYSAFFRON_OUTPUT_BYTES + 1
 };
 
@@ -23,7 +22,7 @@ struct slices {
 struct room {
     struct slices lent;
     struct slices before;
-    uint16_t assumed[ROOM_ASSUMPTIONS];
+    uint16_t assumed[TOO_MANY_ASSUMPTIONS];
 };
 
 /* Every byte is junk. */

@@ -82,7 +82,7 @@ struct refusal names_refusal(const uint8_t *names, size_t names_length, size_t a
 static bool good_sizes(size_t words_length, size_t count, size_t terms_length)
 {
     return words_length <= QUAYSAFFRON_MOST_WORDS && count <= words_length && terms_length <= QUAYSAFFRON_MOST_NUMBERS
-        && terms_length % QUAYSAFFRON_NODE_NUMBERS == 0;
+        && terms_length % NODE == 0;
 }
 
 static struct refusal assumed_refusal(const struct search *lent)
@@ -158,10 +158,10 @@ static bool good_name(const struct draft *lent, size_t name)
 
 static bool good_node(const struct draft *lent, size_t at)
 {
-    const uint16_t *node = lent->terms + QUAYSAFFRON_NODE_NUMBERS * at;
+    const uint16_t *node = lent->terms + NODE * at;
     const char *fields = fields_of(node[0]);
     bool good = fields != NULL;
-    for (size_t i = 0; good && i < QUAYSAFFRON_NODE_NUMBERS - 1; i++) {
+    for (size_t i = 0; good && i < NODE - 1; i++) {
         size_t value = node[1 + i];
         switch (fields[i]) {
         case 'n':
@@ -194,7 +194,7 @@ struct refusal text_refusal(const struct draft *lent)
 {
     struct refusal refusal;
     if (!good_sizes(lent->words_length, lent->count, lent->terms_length)
-        || lent->nodes > lent->terms_length / QUAYSAFFRON_NODE_NUMBERS) {
+        || lent->nodes > lent->terms_length / NODE) {
         return refused(QUAYSAFFRON_SIZES, 0);
     }
     refusal = words_refusal(lent->words, lent->words_length, lent->count);

@@ -285,11 +285,11 @@ static void measure_levels(struct call *call, void *(*run)(void *), size_t symbo
     }
 }
 
-static void add_node(size_t kind, const uint16_t fields[QUAYSAFFRON_NODE_NUMBERS - 1])
+static void add_node(size_t kind, const uint16_t fields[NODE - 1])
 {
-    uint16_t *node = terms + QUAYSAFFRON_NODE_NUMBERS * nodes++;
+    uint16_t *node = terms + NODE * nodes++;
     node[0] = (uint16_t)kind;
-    memcpy(node + 1, fields, (QUAYSAFFRON_NODE_NUMBERS - 1) * sizeof *fields);
+    memcpy(node + 1, fields, (NODE - 1) * sizeof *fields);
 }
 
 /* Where a kind of node has its children: the path goes on by one of them, the others are node 0. */
@@ -316,7 +316,7 @@ static const struct child children[] = {
     {"TypeAscription, term", QUAYSAFFRON_ASCRIPTION, 0},
 };
 
-enum { CHILDREN = sizeof children / sizeof children[0], FIELDS = QUAYSAFFRON_NODE_NUMBERS - 1 };
+enum { CHILDREN = sizeof children / sizeof children[0], FIELDS = NODE - 1 };
 
 /* A book with one assumption, whose symbol has the most digits, and its Ident as node 0. */
 static void start_term(void)
