@@ -24,12 +24,16 @@ size_t ask_status(const struct search *lent, quaysaffron_answer *answer)
                               lent->work_length, lent->steps, answer);
 }
 
-struct written ask_text(const struct draft *lent)
+struct written ask_text(const struct draft *lent, size_t *size, size_t *place)
 {
-    struct written written = {JUNK_BYTE, JUNK_BYTE, JUNK_BYTE};
+    struct written written;
+    *size = JUNK_BYTE;
+    *place = JUNK_BYTE;
     written.number = quaysaffron_text(lent->words, lent->words_length, lent->count, lent->assumptions, lent->names, lent->names_length,
-                                      lent->terms, lent->terms_length, lent->nodes, lent->root, lent->text, lent->text_length,
-                                      &written.size, &written.place);
+                                      lent->terms, lent->terms_length, lent->nodes, lent->root, lent->text, lent->text_length, size,
+                                      place);
+    written.size = *size;
+    written.place = *place;
     return written;
 }
 

@@ -59,7 +59,7 @@ struct before {
 /* The calls. Out-parameters hold junk beforehand, so that one that is not set is seen. */
 size_t ask_prove(const struct search *lent, quaysaffron_answer *answer);
 size_t ask_status(const struct search *lent, quaysaffron_answer *answer);
-struct written ask_text(const struct draft *lent);
+struct written ask_text(const struct draft *lent, size_t *size, size_t *place);
 struct written ask_name(size_t index, uint8_t *name, size_t name_length);
 
 /* Whether every byte has this value. */

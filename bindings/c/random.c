@@ -206,18 +206,15 @@ static void write_text(struct trial *trial, struct draft *lent)
 {
     struct refusal refusal;
     struct written written;
-    size_t *size = lend_junk(trial, &trial->size, 1, sizeof *size), *place = lend_junk(trial, &trial->place, 1, sizeof *place);
+    size_t *size = lend(&trial->size, sizeof *size, once_in(&trial->dice, 2));
+    size_t *place = lend(&trial->place, sizeof *place, once_in(&trial->dice, 2));
     bool read, right;
     lent->text = lend_junk(trial, &trial->text, lent->text_length, 1);
     memcpy(trial->before.text, lent->text, lent->text_length);
     memcpy(trial->before.words, lent->words, lent->words_length * sizeof *lent->words);
     memcpy(trial->before.terms, lent->terms, lent->terms_length * sizeof *lent->terms);
     refusal = text_refusal(lent);
-    written.number = quaysaffron_text(lent->words, lent->words_length, lent->count, lent->assumptions, lent->names, lent->names_length,
-                                      lent->terms, lent->terms_length, lent->nodes, lent->root, lent->text, lent->text_length, size,
-                                      place);
-    written.size = *size;
-    written.place = *place;
+    written = ask_text(lent, size, place);
     read = memcmp(trial->before.words, lent->words, lent->words_length * sizeof *lent->words) == 0
         && memcmp(trial->before.terms, lent->terms, lent->terms_length * sizeof *lent->terms) == 0
         && memcmp(trial->book.names, lent->names, lent->names_length) == 0;

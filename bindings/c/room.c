@@ -62,8 +62,9 @@ quaysaffron_answer room_status(struct room *room, const struct search *lent, boo
 struct written room_text(struct room *room, const struct draft *lent, bool *kept)
 {
     struct written written;
+    size_t size, place;
     room->before = room->lent;
-    written = ask_text(lent);
+    written = ask_text(lent, &size, &place);
     *kept = text_holds(lent, room->before.text, written) && behind_text(room, lent->text_length);
     return written;
 }
