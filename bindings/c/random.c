@@ -48,7 +48,6 @@ struct trial {
     bool large;
     struct guarded words, assumed, names, terms, work, text, answer, size, place;
     struct slices before;
-    uint8_t names_before[BOOK_NAMES];
     uint8_t file[FILE_ROOM];
     size_t met[CALLS][OUTCOMES];
     size_t wanted;
