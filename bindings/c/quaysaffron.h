@@ -225,7 +225,8 @@ size_t quaysaffron_output(const uint8_t *file, size_t file_length, uint8_t out[Q
 /* Tests the first count words alone, or all where there are fewer: returns 0 and sets place to 0, or 2 and the place. */
 size_t quaysaffron_test_words(const uint32_t *words, size_t words_length, size_t count, size_t *place);
 
-/* Tests a text that is to hold so many names: returns 0 and sets place to 0, or 4 and the place. Any number of names is tested. */
+/* Tests a text that is to hold so many names: returns 0 and sets place to 0, or 4 and the place. Any number of names is tested, in a time
+ * that grows with their square. */
 size_t quaysaffron_test_names(const uint8_t *names, size_t names_length, size_t assumptions, size_t *place);
 
 /* The layout that the library was compiled for; an array of -1 elements stops the compiler. */

@@ -442,7 +442,8 @@ pub fn test_words(words: &[u32], count: usize) -> Tested {
     tested
 }
 
-/// Tests a text that is to hold so many names: [`BAD_NAMES`] at the first that is at fault. Any number of names is tested.
+/// Tests a text that is to hold so many names: [`BAD_NAMES`] at the first that is at fault. Any number of names is tested, in a time
+/// that grows with their square.
 pub fn test_names(names: &[u8], assumptions: usize) -> Tested {
     let mut tested = Tested::default();
     // SAFETY: a slice and a local's part, see above.
