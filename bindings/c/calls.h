@@ -57,8 +57,8 @@ struct before {
 };
 
 /* The calls. Out-parameters hold junk beforehand, so that one that is not set is seen. */
-size_t ask_prove(const struct search *lent, quaysaffron_answer *answer);
-size_t ask_status(const struct search *lent, quaysaffron_answer *answer);
+typedef size_t search_call(const struct search *lent, quaysaffron_answer *answer);
+search_call ask_prove, ask_status;
 struct written ask_text(const struct draft *lent, size_t *size, size_t *place);
 struct written ask_name(size_t index, uint8_t *name, size_t name_length);
 
@@ -66,8 +66,8 @@ struct written ask_name(size_t index, uint8_t *name, size_t name_length);
 bool bytes_are(const void *bytes, size_t length, uint8_t value);
 
 /* Whether an answer and the slices are as the header says. */
-bool prove_holds(const struct search *lent, const struct before *before, size_t returned, const quaysaffron_answer *answer);
-bool status_holds(const struct search *lent, const struct before *before, size_t returned, const quaysaffron_answer *answer);
+typedef bool search_promise(const struct search *lent, const struct before *before, size_t returned, const quaysaffron_answer *answer);
+search_promise prove_holds, status_holds;
 bool text_holds(const struct draft *lent, const uint8_t *text_before, struct written written);
 bool name_holds(size_t index, const uint8_t *name, size_t name_length, struct written written);
 bool output_holds(const uint8_t *out, size_t length);

@@ -242,15 +242,31 @@ static void write_found(struct trial *trial, const struct search *found, const q
     write_text(trial, &lent);
 }
 
+/* A call over what a search is lent, with what it must refuse and what it promises. */
+struct asked {
+    size_t name;
+    search_test *test;
+    search_call *call;
+    search_promise *holds;
+};
+
+/* Makes one such call over what is lent, and gives its answer. */
+static const quaysaffron_answer *try_search(struct trial *trial, const struct search *lent, struct asked asked)
+{
+    struct before before = keep(trial, lent);
+    struct refusal refusal = asked.test(lent);
+    quaysaffron_answer *answer = lend(&trial->answer, sizeof *answer, once_in(&trial->dice, 2));
+    size_t returned = asked.call(lent, answer);
+    bool right = asked.holds(lent, &before, returned, answer) && only_read(trial, lent) && refused_alike(answer, refusal);
+    count(trial, asked.name, outcome_of(answer), right);
+    return answer;
+}
+
 static void try_prove(struct trial *trial)
 {
+    struct asked asked = {PROVE, search_refusal, ask_prove, prove_holds};
     struct search lent = draw_search(trial);
-    struct before before = keep(trial, &lent);
-    struct refusal refusal = search_refusal(&lent);
-    quaysaffron_answer *answer = lend(&trial->answer, sizeof *answer, once_in(&trial->dice, 2));
-    size_t returned = ask_prove(&lent, answer);
-    bool right = prove_holds(&lent, &before, returned, answer) && only_read(trial, &lent) && refused_alike(answer, refusal);
-    count(trial, PROVE, outcome_of(answer), right);
+    const quaysaffron_answer *answer = try_search(trial, &lent, asked);
     if (answer->kind == QUAYSAFFRON_PROVED && trial->calls < trial->wanted) {
         write_found(trial, &lent, answer);
     }
@@ -258,13 +274,9 @@ static void try_prove(struct trial *trial)
 
 static void try_status(struct trial *trial)
 {
+    struct asked asked = {STATUS_CALL, status_refusal, ask_status, status_holds};
     struct search lent = draw_search(trial);
-    struct before before = keep(trial, &lent);
-    struct refusal refusal = status_refusal(&lent);
-    quaysaffron_answer *answer = lend(&trial->answer, sizeof *answer, once_in(&trial->dice, 2));
-    size_t returned = ask_status(&lent, answer);
-    bool right = status_holds(&lent, &before, returned, answer) && refused_alike(answer, refusal);
-    count(trial, STATUS_CALL, outcome_of(answer), right);
+    try_search(trial, &lent, asked);
 }
 
 /* Breaks one size, count or number of a draft. */

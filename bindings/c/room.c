@@ -35,9 +35,6 @@ static struct before copies(const struct room *room)
     return before;
 }
 
-typedef size_t search_call(const struct search *lent, quaysaffron_answer *answer);
-typedef bool search_promise(const struct search *lent, const struct before *before, size_t returned, const quaysaffron_answer *answer);
-
 static quaysaffron_answer ask(struct room *room, const struct search *lent, search_call *call, search_promise *holds, bool *kept)
 {
     quaysaffron_answer answer;

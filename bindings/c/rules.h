@@ -15,8 +15,8 @@ const char *fields_of(size_t kind);
 
 struct refusal words_refusal(const uint32_t *words, size_t words_length, size_t count);
 struct refusal names_refusal(const uint8_t *names, size_t names_length, size_t assumptions);
-struct refusal search_refusal(const struct search *lent);
-struct refusal status_refusal(const struct search *lent);
+typedef struct refusal search_test(const struct search *lent);
+search_test search_refusal, status_refusal;
 struct refusal text_refusal(const struct draft *lent);
 
 #endif

@@ -294,6 +294,30 @@ extern "C" {
     ) -> usize;
 }
 
+/// Calls a function that fills an answer over what a search is lent. What stands between the count and the goal is the call's own.
+macro_rules! answered {
+    ($call:ident, $words:ident, $count:ident, [$($own:expr),*], $goal:ident, $terms:ident, $work:ident, $steps:ident) => {{
+        let mut answer = Answer::default();
+        // SAFETY: slices and a local, see above. What is returned stands in the answer too.
+        unsafe {
+            $call(
+                $words.as_mut_ptr(),
+                $words.len(),
+                $count,
+                $($own,)*
+                $goal,
+                $terms.as_mut_ptr(),
+                $terms.len(),
+                $work.as_mut_ptr(),
+                $work.len(),
+                $steps,
+                &mut answer,
+            );
+        }
+        answer
+    }};
+}
+
 /// Searches for a derivation of a goal from named assumptions.
 ///
 /// `words` holds `count` given formulas at its front, then room for those that the search makes. `assumed` and `goal` are indices of
@@ -319,27 +343,16 @@ pub fn prove(
     work: &mut [Record],
     steps: usize,
 ) -> Answer {
-    let mut answer = Answer::default();
-    // SAFETY: slices and a local, see above. What is returned stands in the answer too.
-    unsafe {
-        quaysaffron_prove(
-            words.as_mut_ptr(),
-            words.len(),
-            count,
-            assumed.as_ptr(),
-            assumed.len(),
-            names.as_ptr(),
-            names.len(),
-            goal,
-            terms.as_mut_ptr(),
-            terms.len(),
-            work.as_mut_ptr(),
-            work.len(),
-            steps,
-            &mut answer,
-        );
-    }
-    answer
+    answered!(
+        quaysaffron_prove,
+        words,
+        count,
+        [assumed.as_ptr(), assumed.len(), names.as_ptr(), names.len()],
+        goal,
+        terms,
+        work,
+        steps
+    )
 }
 
 /// The status of a goal without assumptions; lent as to [`prove`], refused with [`SIZES`], [`BAD_FORMULA`] and [`BAD_GOAL`] alone.
@@ -355,23 +368,16 @@ pub fn status(
     work: &mut [Record],
     steps: usize,
 ) -> Answer {
-    let mut answer = Answer::default();
-    // SAFETY: slices and a local, see above. What is returned stands in the answer too.
-    unsafe {
-        quaysaffron_status(
-            words.as_mut_ptr(),
-            words.len(),
-            count,
-            goal,
-            terms.as_mut_ptr(),
-            terms.len(),
-            work.as_mut_ptr(),
-            work.len(),
-            steps,
-            &mut answer,
-        );
-    }
-    answer
+    answered!(
+        quaysaffron_status,
+        words,
+        count,
+        [],
+        goal,
+        terms,
+        work,
+        steps
+    )
 }
 
 /// Writes the house text of the term at node `root` to the front of `text`, with zeros behind it.
