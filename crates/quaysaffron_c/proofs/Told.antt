@@ -18,16 +18,12 @@ use Rattle.status.specs.declared.Status.{Status}
 use Rattle.status.specs.Answers as A
 use Rattle.status.specs.Answers.{statusOf}
 use Rattle.status.specs.Whole.{Answered}
-use Rattle.quaysaffron_c.specs.Told.{outcomeKind, statusKind, kindOf, verdictOf, inOrder, Searched, Settled, Tests}
+use Rattle.quaysaffron_c.specs.Told.{Kind, outcomeKind, statusKind, kindOf, verdictOf, inOrder, Searched, Settled, Tests}
 
--- what is told of an outcome is told of one that equals it
-pub outcome-told : {o p : Outcome} → o ≡ p →
-    (numbersOf p .number ≡ numbersOf o .number) × (inOrder (kindOf p) (numbersOf p) ≡ inOrder (kindOf o) (numbersOf o))
-outcome-told e = (sym (ap (λ (o : Outcome). numbersOf o .number) e), sym (ap (λ (o : Outcome). inOrder (kindOf o) (numbersOf o)) e))
-
-pub status-told : {s t : Status} → s ≡ t →
-    (A.numbersOf t .number ≡ A.numbersOf s .number) × (inOrder (verdictOf t) (A.numbersOf t) ≡ inOrder (verdictOf s) (A.numbersOf s))
-status-told e = (sym (ap (λ (s : Status). A.numbersOf s .number) e), sym (ap (λ (s : Status). inOrder (verdictOf s) (A.numbersOf s)) e))
+-- what is told of an answer is told of one that equals it
+pub told-alike : {A : Type 0} (kind : A → Kind) (own : A → Numbers) {o p : A} → o ≡ p →
+    (own p .number ≡ own o .number) × (inOrder (kind p) (own p) ≡ inOrder (kind o) (own o))
+told-alike {A} kind own e = (sym (ap (λ (o : A). own o .number) e), sym (ap (λ (o : A). inOrder (kind o) (own o)) e))
 
 -- the prover's outcome has the kind of theory's
 kind-as : (o : C.Outcome) → kindOf (outcomeOf o) ≡ outcomeKind o
