@@ -166,7 +166,7 @@ fn time(file: &[u8]) -> Vec<u8> {
     timing::nanoseconds(|| raw::output(file, &mut out))
 }
 
-/// The status of a well-cut file's goal. What must be zero in the end is, unless the call was refused.
+/// The status of a well-cut file's goal, a shortage with its steps. What must be zero in the end is, unless the call was refused.
 fn status(file: &[u8]) -> Vec<u8> {
     let mut lent = Lent::new(file);
     let Lent {
@@ -183,6 +183,7 @@ fn status(file: &[u8]) -> Vec<u8> {
         raw::SOLVABLE => b"solvable\n".to_vec(),
         raw::UNSOLVABLE => b"unsolvable\n".to_vec(),
         raw::UNKNOWN => b"unknown\n".to_vec(),
+        raw::SHORT => format!("refused {}\nsteps {}\n", answer.number, answer.steps).into_bytes(),
         _ => format!("refused {}\n", answer.number).into_bytes(),
     }
 }

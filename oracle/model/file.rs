@@ -1,7 +1,7 @@
 //! File.antt: the house file, and the bytes that the program prints for it.
 use crate::call::Outcome::*;
 use crate::call::{called, numbers, Claim, Outcome};
-use crate::status::status_lines;
+use crate::status::{status_lines, status_numbers};
 use crate::text::written;
 use crate::Options;
 
@@ -111,6 +111,10 @@ pub fn numbers_line(bs: &[u8], options: &Options) -> Vec<u8> {
     let Some(x) = decoded(bs) else {
         return b"14 0 0 0 0 0 0 0 0 0\n".to_vec();
     };
+    if options.status {
+        let seven = status_numbers(&x, options).map(|n| n.to_string());
+        return format!("{} 0 0 0\n", seven.join(" ")).into_bytes();
+    }
     let outcome = called(&claim_of(&x, x.goals[0], options));
     let seven = numbers(&outcome, x.words.len()).map(|n| n.to_string());
     let text = match &outcome {

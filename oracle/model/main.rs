@@ -2,15 +2,15 @@
 //! Layout, Text, Writer, File and Status. It stands in for the proved program in comparisons and shares no code with the Rust
 //! (with its driver only `feed.rs`, how both are fed).
 //!
-//!     model [--status | --numbers] [--more] [--free] [--words N] [--nodes N] [--steps N] [--text N] [PATH]
+//!     model [--status] [--numbers] [--more] [--free] [--words N] [--nodes N] [--steps N] [--text N] [PATH]
 //!     model --batch [..]      many house files, each after its length in 4 bytes, little-endian; each answer in the same way
 //!
 //! It prints `File.printed`. With --more, `unprovable` is followed by its index count too (`names N`), and a shortage by its steps.
 //! --free drops every limit but that of steps. --words, --nodes, --steps and --text lend so much instead of what the program lends.
 //! --numbers prints a line of ten numbers instead: those of the call (number, place, root, steps, indices, formulas, terms), the
 //! writer's number, the length and the Adler-32 of the text; in a batch each file then comes after the words, nodes, steps and text
-//! bytes that are lent for it, 4 bytes each. --status prints the status of the goal, the assumptions left out, and with --more whether
-//! the second search ran short.
+//! bytes that are lent for it, 4 bytes each. --status tells the status of the goal instead, the assumptions left out; among the numbers
+//! its verdict stands in the root's place, 1 solvable, 2 unsolvable, 3 unknown.
 mod call;
 #[path = "../feed.rs"]
 mod feed;

@@ -1,6 +1,6 @@
 //! Status.antt: the status of a formula, as two searches and a verdict.
 use crate::call::Outcome::*;
-use crate::call::{called, Claim, Outcome};
+use crate::call::{called, numbers, Claim, Outcome};
 use crate::file::{answer_lines, File};
 use crate::form::shape;
 use crate::form::Shape::*;
@@ -33,7 +33,15 @@ pub fn second_outcome(x: &Claim) -> Outcome {
     })
 }
 
-pub fn status_lines(x: &File, options: &Options) -> Vec<u8> {
+#[derive(Clone, Copy)]
+pub enum Verdict {
+    Solvable = 1,
+    Unsolvable = 2,
+    Unknown = 3,
+}
+
+/// A verdict, or the shortage or refusal of the search that had it.
+fn asked(x: &File, options: &Options) -> Result<Verdict, Outcome> {
     let first = Claim {
         words: &x.words,
         assumed: &[],
@@ -42,13 +50,30 @@ pub fn status_lines(x: &File, options: &Options) -> Vec<u8> {
         lent: options.lent,
     };
     match called(&first) {
-        Proved(..) => b"solvable\n".to_vec(),
-        Unprovable(..) if !open_forms(&x.words)[first.goal] => b"unsolvable\n".to_vec(),
+        Proved(..) => Ok(Verdict::Solvable),
+        Unprovable(..) if !open_forms(&x.words)[first.goal] => Ok(Verdict::Unsolvable),
         Unprovable(..) => match second_outcome(&first) {
-            Proved(..) => b"unsolvable\n".to_vec(),
-            Shortage(..) if options.more => b"unknown\nshort\n".to_vec(),
-            _ => b"unknown\n".to_vec(),
+            Proved(..) => Ok(Verdict::Unsolvable),
+            Unprovable(..) => Ok(Verdict::Unknown),
+            short => Err(short),
         },
-        refused => answer_lines(refused, options),
+        refused => Err(refused),
+    }
+}
+
+pub fn status_lines(x: &File, options: &Options) -> Vec<u8> {
+    match asked(x, options) {
+        Ok(Verdict::Solvable) => b"solvable\n".to_vec(),
+        Ok(Verdict::Unsolvable) => b"unsolvable\n".to_vec(),
+        Ok(Verdict::Unknown) => b"unknown\n".to_vec(),
+        Err(outcome) => answer_lines(outcome, options),
+    }
+}
+
+/// The seven numbers of a status, the verdict in the root's place.
+pub fn status_numbers(x: &File, options: &Options) -> [usize; 7] {
+    match asked(x, options) {
+        Ok(verdict) => [0, 0, verdict as usize, 0, 0, 0, 0],
+        Err(outcome) => numbers(&outcome, x.words.len()),
     }
 }

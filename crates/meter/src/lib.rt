@@ -16,7 +16,7 @@ pub const STEPS: usize = 6;
 
 const NAMES: usize = 7;
 
-const FORMULAS: usize = 8;
+pub const FORMULAS: usize = 8;
 
 pub const TERMS: usize = 9;
 

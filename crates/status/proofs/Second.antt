@@ -6,30 +6,29 @@ use mathlib.Core.Bool.{Bool, true, false}
 use mathlib.Core.Option.{none}
 use mathlib.Core.List.{List, [], _∷_, map}
 use native.Mathlib.Omega.{arith}
-use borrow.Author.Tests.{le-leb, lt-leb}
 use lib.ListN.{length, set, take, drop, replicate}
 use lib.Seq.{take-at, take-take}
 use Rattle.theory.specs.Form.{Good, shape, form, word, pack, isBot, isImp}
-use Rattle.theory.specs.Meter.{Formulas}
+use Rattle.theory.specs.Refusal.{lackNumber}
 use Rattle.theory.specs.Call as C
-use Rattle.theory.specs.Call.{Claim, givenWords, givenBook, refusal, shortage, called}
+use Rattle.theory.specs.Call.{Claim, givenWords, givenBook, refusal, called}
 use Rattle.theory.specs.Owed.{Passes}
 use Rattle.theory.specs.Status as S
 use Rattle.theory.specs.Status.{openForm, settled, refuted, Inquiry, firstClaim, secondClaim, secondOutcome, goalIsOpen}
 use Rattle.theory.proofs.Passing.{passes}
-use Rattle.theory.proofs.CallClaims.{given-kept, records-zero, second-passes}
+use Rattle.theory.proofs.CallClaims.{given-kept, records-zero, second-room, second-no-room, second-passes}
 use Rattle.context.specs.Area.{Rec, zeroed}
 use Rattle.call.specs.declared.Outcome.{Outcome}
 use Rattle.call.specs.Outcomes.{outcomeOf}
 use Rattle.call.specs.Lent.{claimOf}
 use Rattle.call.specs.Whole.{Called}
 use Rattle.status.specs.declared.Status.{Status}
-use Rattle.status.specs.declared.Status.the-variants.{Unsolvable, Unknown}
+use Rattle.status.specs.declared.Status.the-variants.{Unsolvable, Short}
 use Rattle.status.specs.Answers.{statusOf, refutedAs}
 use Rattle.status.specs.Whole.{inquiryOf, failedStatus}
 use Rattle.status.proofs.Lists.{two-stored}
 
--- an outcome of the second search, turned into a verdict by the code and by theory
+-- an outcome of the second search, turned into a status by the code and by theory
 same-verdict : (o : C.Outcome) → refutedAs (outcomeOf o) ≡ statusOf (refuted o)
 unfolding refutedAs outcomeOf statusOf refuted
 same-verdict (C.proved r n u f t) = refl
@@ -78,13 +77,10 @@ module _ (f : List ℕ) (count goal : ℕ) (t : List ℕ) (w : List Rec) (steps 
     goal-closed o =
         ap (λ (b : Bool). statusOf (elim b as (λ v. S.Status) [ false ↦ settled S.Unsolvable | true ↦ refuted (secondOutcome x) ])) o
 
-    -- no room for the two words
-    pub no-room : length f < count + 2 → Unknown ≡ statusOf (refuted (secondOutcome x))
-    unfolding secondOutcome refuted statusOf
-    no-room h =
-        ap (λ (b : Bool). statusOf (refuted (elim b as (λ v. C.Outcome)
-        [ true ↦ (called (secondClaim x)) .outcome | false ↦ shortage Formulas 0 ])))
-        (sym (lt-leb (count + 2) (length f) h))
+    -- no room for the two words: 8, and no step was entered
+    pub no-room : length f < count + 2 → Short 8 0 ≡ statusOf (refuted (secondOutcome x))
+    unfolding refuted statusOf lackNumber
+    no-room h = ap (λ (o : C.Outcome). statusOf (refuted o)) (sym (second-no-room x h))
 
     module _ (room : count + 2 ≤ length f) where
       -- the code's two words after the given ones are the second claim's
@@ -113,12 +109,9 @@ module _ (f : List ℕ) (count goal : ℕ) (t : List ℕ) (w : List Rec) (steps 
 
       module _ {o : Outcome} {f1 t1 : List ℕ} {w1 : List Rec} (c : Called (secondClaim x) w o f1 t1 w1) where
         refuted-so : refutedAs o ≡ statusOf (refuted (secondOutcome x))
-        unfolding secondOutcome
         refuted-so =
             ap refutedAs (c .outcome) ∙ same-verdict ((called (secondClaim x)) .outcome)
-            ∙ ap (λ (b : Bool). statusOf (refuted (elim b as (λ v. C.Outcome)
-            [ true ↦ (called (secondClaim x)) .outcome | false ↦ shortage Formulas 0 ])))
-            (sym (le-leb (count + 2) (length f) room))
+            ∙ ap (λ (o : C.Outcome). statusOf (refuted o)) (sym (second-room x room))
 
         front-kept : take count f1 ≡ take count f
         unfolding secondClaim givenWords

@@ -24,9 +24,10 @@ numbersOf Unknown = record { number = 0; place = 0; root = 0; steps = 0; indices
 numbersOf (Short k n) = record { number = k; place = 0; root = 0; steps = n; indices = 0; formulas = 0; terms = 0 }
 numbersOf (Refused k i) = record { number = k; place = i; root = 0; steps = 0; indices = 0; formulas = 0; terms = 0 }
 
--- the verdict by the second search's outcome: "proved is Unsolvable, anything else, a shortage included, is Unknown"
+-- the status by the second search's outcome: "proved is Unsolvable"; "Unknown means that both searches ended without a proof"; a shortage
+-- is returned
 unfoldable pub refutedAs : Outcome → Status
 refutedAs (Proved r n u f t) = Unsolvable
 refutedAs (Unprovable n u f t) = Unknown
-refutedAs (Lacks k n) = Unknown
-refutedAs (Rejects k i) = Unknown
+refutedAs (Lacks k n) = Short k n
+refutedAs (Rejects k i) = Refused k i

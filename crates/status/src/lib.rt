@@ -21,15 +21,15 @@ use context::Record;
 // Symbols from here up carry free parameters.
 const FIRST_FREE: usize = 8192;
 
-// What comes back: a verdict, a shortage of the first search with its steps, or a refusal with its place.
+// What comes back: a verdict, a shortage of either search with that search's steps, or a refusal with its place.
 pub enum Status {
     // the goal has a proof
     Solvable,
     // it has none and is closed, or its negation has one
     Unsolvable,
-    // neither was found
+    // it is open, and neither it nor its negation has one
     Unknown,
-    // a limit would be passed in the first search
+    // a limit would be passed in the first search, or in the second
     Short { number: usize, steps: usize },
     // the input breaks what is asked of it
     Refused { number: usize, place: usize },
@@ -95,7 +95,7 @@ fn open_goal(words: &[u32], work: &mut [Record], count: usize, goal: usize) -> b
     answer
 }
 
-// The verdict by the second search: anything but a proof leaves it unknown.
+// The status by the second search: a proof refutes the goal, no proof leaves it unknown, and a shortage is told.
 fn refuted(second: Outcome) -> Status
     ensures { λ r. ⌜ r ≡ refutedAs second ⌝ }
 {
@@ -113,14 +113,8 @@ fn refuted(second: Outcome) -> Status
             formulas: _,
             terms: _,
         } => Status::Unknown,
-        Outcome::Short {
-            number: _,
-            steps: _,
-        } => Status::Unknown,
-        Outcome::Refused {
-            number: _,
-            place: _,
-        } => Status::Unknown,
+        Outcome::Short { number, steps } => Status::Short { number, steps }, // this search's steps, not the sum of both
+        Outcome::Refused { number, place } => Status::Refused { number, place },
     }
 }
 
@@ -150,7 +144,7 @@ fn search_goal(
     prove::prove(words, count, &assumed, &names, goal, terms, work, steps)
 }
 
-// False and goal→False are appended, where there is room for them, and the second is searched for.
+// False and goal→False are appended, and the second is searched for; no room for them is a shortage before any step.
 fn search_negation(
     words: &mut [u32],
     count: usize,
@@ -167,7 +161,10 @@ fn search_negation(
     ensures work { λ _. ⌜ now (work .exit) ≡ replicate (length (now (work .entry))) zeroed ⌝ }
 {
     if words.len() < count + 2 {
-        return Status::Unknown;
+        return Status::Short {
+            number: meter::FORMULAS,
+            steps: 0,
+        };
     }
     formula::store(words, count, formula::pack(formula::FALSE, 0, 0));
     formula::store(words, count + 1, formula::pack(formula::IMPL, goal, count));

@@ -6,6 +6,7 @@ use mathlib.Core.Bool.{false}
 use mathlib.Core.Option.{none, some}
 use mathlib.Core.Logic.{_≢_, _⊎_, _↔_}
 use mathlib.Core.List.{List, map}
+use lib.Dec.{T}
 use lib.ListN.{length, take, replicate}
 use Rattle.theory.specs.Form.{form, shape, badWord}
 use Rattle.theory.specs.Term.{Term, term, Derives, AllNamesHave}
@@ -14,7 +15,7 @@ use Rattle.theory.specs.NameText.{namesIn, badName, padded, emptied, las
 use Rattle.theory.specs.Layout.{nodeWidth, nodesIn, badNodeFrom, badTerm}
 use Rattle.theory.specs.World.{Tree, modelOf, ForcesEach, firstWorld}
 use Rattle.theory.specs.Kripke.{Lawful, frame, forces}
-use Rattle.theory.specs.Meter.{Lack, Steps, State, found, failed, short, unfinished}
+use Rattle.theory.specs.Meter.{Lack, Steps, Formulas, State, found, failed, short, unfinished}
 use Rattle.theory.specs.Log.{Logged, readOff}
 use Rattle.theory.specs.Written.{assumptions, Logs}
 use Rattle.theory.specs.Text.{termText}
@@ -22,10 +23,11 @@ use Rattle.theory.specs.Refusal.{Fault, Sizes, Refused, badAssumption, f
 use Rattle.theory.specs.Call.{Claim, givenWords, givenBook, refusal, searchLimits, searched, proved, unprovable, shortage, refused}
 use Rattle.theory.specs.Call.{numbers, After, recordsAfter, givenBack, unchanged, answered, called}
 use Rattle.theory.specs.Writer.{termDepth, Draft, draftAfter, writerRefusal, drafted, notWritten, written}
-use Rattle.theory.specs.Status.{rejected, statusNumbers, Inquiry, firstClaim, secondClaim, secondOutcome, cleanedUp, asked}
+use Rattle.theory.specs.Status.{Unknown, settled, ranShort, rejected, statusNumbers, Inquiry, firstClaim, secondClaim, secondOutcome}
+use Rattle.theory.specs.Status.{goalIsOpen, cleanedUp, asked}
 use Rattle.theory.specs.File.{File, decoded, claimOf, printed}
 use Rattle.theory.specs.Places.{LowestWord, FirstOutside, FirstFaulty, LowestNode}
-use Rattle.theory.specs.Owed.{Faulty, Bounds, ZeroAbove, Grown, FitIn, Lent, Decided, Says, Passes}
+use Rattle.theory.specs.Owed.{Faulty, Bounds, ZeroAbove, Grown, FitIn, Lent, Decided, Unproved, Says, Passes}
 use Rattle.theory.proofs.Written.{one-log-only}
 use Rattle.theory.proofs.Passing.{passes}
 use Rattle.theory.proofs.Called
@@ -275,19 +277,47 @@ name-length = Writes.name-length
 
 module _ (x : Inquiry) where
   -- the verdicts of the status: Solvable comes with a derivation; Unsolvable says that there is none, and where the goal is open that its
-  -- negation has one; Unknown says that there is none and that the goal is open; a shortage and a refusal are the first search's
+  -- negation has one; Unknown says that neither the goal nor its negation has one, and that the goal is open; a shortage is the first
+  -- search's, or the second's, and then the goal is open and has no derivation; a refusal is the first search's
   pub status-says : Says x ((asked x) .status)
   status-says = StatusCalls.status-says x
 
-  -- the numbers of a status, by the definition that gives them: "a verdict comes with no other number"; a shortage and a refusal come with
-  -- the first search's
+  -- "Unknown means that both searches ended without a proof" (of an open goal, since only then a second search is made)
+  pub unknown-exactly : ((asked x) .status ≡ settled Unknown) ↔
+      (Unproved ((called (firstClaim x)) .outcome) × T (goalIsOpen x) × Unproved (secondOutcome x))
+  unknown-exactly = StatusCalls.unknown-exactly x
+
+  -- "a shortage in either search is now returned by its number with that search's steps", and only then
+  pub short-exactly : (l : Lack) (n : ℕ) → ((asked x) .status ≡ ranShort l n) ↔
+      (((called (firstClaim x)) .outcome ≡ shortage l n) ⊎
+      (Unproved ((called (firstClaim x)) .outcome) × T (goalIsOpen x) × (secondOutcome x ≡ shortage l n)))
+  short-exactly = StatusCalls.short-exactly x
+
+  -- "for 6, the limit", of either search
+  pub short-steps : {n : ℕ} → (asked x) .status ≡ ranShort Steps n → n ≡ x .stepLimit
+  short-steps = StatusCalls.short-steps x
+
+  -- the second search is that of the second claim; "no room for these 2 words is a shortage 8 of the second search", with 0 steps
+  pub second-room : x .count + 2 ≤ length (x .words) → secondOutcome x ≡ (called (secondClaim x)) .outcome
+  second-room = StatusCalls.second-room x
+
+  pub second-no-room : length (x .words) < x .count + 2 → secondOutcome x ≡ shortage Formulas 0
+  second-no-room = StatusCalls.second-no-room x
+
+  -- the numbers of a status, by the definition that gives them: "a verdict comes with no other number"; a shortage comes with those of its
+  -- own search, a refusal with the first's
   pub verdict-numbers : Decided ((called (firstClaim x)) .outcome) →
+      (Unproved ((called (firstClaim x)) .outcome) → T (goalIsOpen x) → Decided (secondOutcome x)) →
       statusNumbers ((asked x) .status) ≡ record { number = 0; place = 0; root = 0; steps = 0; indices = 0; formulas = 0; terms = 0 }
   verdict-numbers = StatusCalls.verdict-numbers x
 
   pub status-numbers : ¬ Decided ((called (firstClaim x)) .outcome) →
       statusNumbers ((asked x) .status) ≡ numbers ((called (firstClaim x)) .outcome)
   status-numbers = StatusCalls.status-numbers x
+
+  pub second-numbers : Unproved ((called (firstClaim x)) .outcome) → T (goalIsOpen x) → ¬ Decided (secondOutcome x) →
+      statusNumbers ((asked x) .status) ≡ numbers (secondOutcome x)
+  second-numbers = StatusCalls.second-numbers x
 
   -- the second search is never refused
   pub second-passes : refusal (firstClaim x) ≡ none → x .count + 2 ≤ length (x .words) → refusal (secondClaim x) ≡ none

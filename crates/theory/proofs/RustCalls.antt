@@ -5,8 +5,8 @@ use mathlib.Core.Bool.{Bool, true, false}
 use mathlib.Core.Option.{none, some}
 use mathlib.Core.List.{List, [], _++_, map}
 use native.Mathlib.Omega.{arith}
-use lib.Dec.{T, leb}
-use borrow.Author.Tests.{leb-true, le-leb, lt-leb}
+use lib.Dec.{T}
+use borrow.Author.Tests.{le-leb, lt-leb}
 use lib.ListN.{length, take}
 use Rattle.theory.specs.Form.{Form, bot, imp, shape}
 use Rattle.theory.specs.Term as Tree
@@ -15,9 +15,9 @@ use Rattle.theory.specs.Names.{bytesOf}
 use Rattle.theory.specs.NameText.{namesIn, entriesUpTo}
 use Rattle.theory.specs.Layout.{nodesIn}
 use Rattle.theory.specs.Text.{bytes, formText, termText}
-use Rattle.theory.specs.Meter.{Formulas, Answer}
+use Rattle.theory.specs.Meter.{Answer}
 use Rattle.theory.specs.Log.{IsShort}
-use Rattle.theory.specs.Call.{Claim, refusal, searchLimits, givenBook, searched, Outcome, unprovable, shortage, called}
+use Rattle.theory.specs.Call.{Claim, refusal, searchLimits, givenBook, searched, Outcome, unprovable, called}
 use Rattle.theory.specs.Status.{Verdict, Solvable, Unsolvable, Unknown, Status, settled, refuted, judged, Inquiry, firstClaim}
 use Rattle.theory.specs.Status.{secondClaim, secondOutcome, goalIsOpen, openForm, asked}
 use Rattle.theory.specs.Owed.{Passes, asksFor}
@@ -29,7 +29,7 @@ use Rattle.theory.specs.RustStatus.{isSome, byNegative, notSolvable, byS
 use Rattle.theory.proofs.Passing.{passes}
 use Rattle.theory.proofs.Called.{Proves, Fails, Told, t-proved, t-unprovable, t-shortage, t-refused, told, search-answers}
 use Rattle.theory.proofs.Returned.{term-decode}
-use Rattle.theory.proofs.StatusCalls.{asked-status, second-goal}
+use Rattle.theory.proofs.StatusCalls.{asked-status, second-goal, second-by}
 use Rattle.theory.proofs.Verdict.{lacks}
 use Rattle.theory.proofs.RustWhole.{search-same}
 
@@ -135,8 +135,9 @@ module _ (x : Inquiry) where
 
   second-same : {u : ℕ} → refusal (firstClaim x) ≡ none → Returns (asksFor x) [] (None u) → goalIsOpen x ≡ true →
       UpTo363 (secondOutcome x) → Agreed (refuted (secondOutcome x))
-  unfolding refuted secondOutcome goalIsOpen isSome byNegative Agreed
-  second-same e none-first p = room (leb (x .count + 2) (length (x .words))) refl
+  unfolding refuted goalIsOpen isSome byNegative Agreed
+  second-same e none-first p =
+      second-by x (λ (o : Outcome). UpTo363 o → Agreed (refuted o)) (λ room. ends room (told (secondClaim x))) (λ few l. absurd l)
     where
       ends : x .count + 2 ≤ length (x .words) → {o : Outcome} → Told (secondClaim x) o → UpTo363 o → Agreed (refuted o)
       ends h (t-proved {u} k) l =
@@ -145,12 +146,6 @@ module _ (x : Inquiry) where
           (Unknown, refl, opened p none-first (unpast u l (second-asks e h (failed-same (secondClaim x) k))) refl)
       ends h (t-shortage k) l = absurd l
       ends h (t-refused k) l = absurd l
-
-      room : (b : Bool) → leb (x .count + 2) (length (x .words)) ≡ b →
-          UpTo363 (elim b as (λ z. Outcome) [ true ↦ (called (secondClaim x)) .outcome | false ↦ shortage Formulas 0 ]) →
-          Agreed (refuted (elim b as (λ z. Outcome) [ true ↦ (called (secondClaim x)) .outcome | false ↦ shortage Formulas 0 ]))
-      room true q l = ends (leb-true (x .count + 2) (length (x .words)) q) (told (secondClaim x)) l
-      room false q l = absurd l
 
   -- the status is the Rust's, where neither search runs short or passes index 363; the second is asked for only if the first fails on an
   -- open goal

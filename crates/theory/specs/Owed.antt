@@ -3,6 +3,7 @@ use Prim.Native.Nat.{ℕ, _*_, _%_, _≤_, _<_}
 use mathlib.Core.Path.{_≡_}
 use mathlib.Core.Bool.{true, false}
 use mathlib.Core.Option.{none, some}
+use mathlib.Core.Logic.{_⊎_}
 use mathlib.Core.List.{[]}
 use lib.Dec.{T}
 use lib.ListN.{length, getD}
@@ -16,7 +17,8 @@ use Rattle.theory.specs.Refusal.{Fault, Sizes, BadFormula, BadAssumption
 use Rattle.theory.specs.Call.{Claim, rightSizes, givenWords, givenBook, Outcome, proved, unprovable, shortage, refused, Numbers}
 use Rattle.theory.specs.Call.{After, called}
 use Rattle.theory.specs.File.{File}
-use Rattle.theory.specs.Status.{Solvable, Unsolvable, Unknown, Status, settled, ranShort, rejected, Inquiry, firstClaim, goalIsOpen}
+use Rattle.theory.specs.Status.{Solvable, Unsolvable, Unknown, Status, settled, ranShort, rejected, Inquiry, firstClaim}
+use Rattle.theory.specs.Status.{secondOutcome, goalIsOpen}
 
 -- what a claim has that passes 1 to 5
 pub record Passes (x : Claim) : Type 0 where
@@ -92,6 +94,14 @@ pub data Decided : Outcome → Type 0 where
   isProved : {r n u f t : ℕ} → Decided (proved r n u f t)
   isUnprovable : {n u f t : ℕ} → Decided (unprovable n u f t)
 
+-- "ended without a proof": Unprovable, whatever its numbers
+pub data Unproved : Outcome → Type 0 where
+  noProof : {n u f t : ℕ} → Unproved (unprovable n u f t)
+
+-- no term of any size derives the formula from no assumptions
+abbrev pub Underivable : Form → Type 0
+Underivable A = (s : Term) → Derives [] s A → ⊥
+
 -- the formula that a status is asked for
 abbrev pub asksFor : Inquiry → Form
 asksFor x = form (givenBook (firstClaim x)) (x .goal)
@@ -100,9 +110,10 @@ asksFor x = form (givenBook (firstClaim x)) (x .goal)
 abbrev pub Says : Inquiry → Status → Type 0
 Says x (settled Solvable) = (s : Term) × Derives [] s (asksFor x)
 Says x (settled Unsolvable) =
-    ((s : Term) → Derives [] s (asksFor x) → ⊥) × (T (goalIsOpen x) → (s : Term) × Derives [] s (imp (asksFor x) bot))
-Says x (settled Unknown) = ((s : Term) → Derives [] s (asksFor x) → ⊥) × T (goalIsOpen x)
-Says x (ranShort l n) = (called (firstClaim x)) .outcome ≡ shortage l n
+    Underivable (asksFor x) × (T (goalIsOpen x) → (s : Term) × Derives [] s (imp (asksFor x) bot))
+Says x (settled Unknown) = Underivable (asksFor x) × Underivable (imp (asksFor x) bot) × T (goalIsOpen x)
+Says x (ranShort l n) =
+    ((called (firstClaim x)) .outcome ≡ shortage l n) ⊎ (Underivable (asksFor x) × T (goalIsOpen x) × (secondOutcome x ≡ shortage l n))
 Says x (rejected f i) = (called (firstClaim x)) .outcome ≡ refused f i
 
 -- the counts of a file that decodes

@@ -28,7 +28,8 @@ pub data Verdict : Type 0 where
   Unsolvable : Verdict
   Unknown : Verdict
 
--- "a verdict comes with no other number"; a shortage of the first search comes with its steps; 1, 2 and 5 are as for the search
+-- "a verdict comes with no other number"; "a shortage in either search is now returned by its number with that search's steps" (request
+-- 5); 1, 2 and 5 are as for the search
 pub data Status : Type 0 where
   settled : Verdict → Status
   ranShort : Lack → ℕ → Status
@@ -40,12 +41,13 @@ statusNumbers (settled v) = record { number = 0; place = 0; root = 0; steps = 0;
 statusNumbers (ranShort l n) = numbers (shortage l n)
 statusNumbers (rejected f i) = numbers (refused f i)
 
--- the second search: "proved is Unsolvable, anything else, a shortage included, is Unknown"
+-- by the second search: "proved is Unsolvable"; "Unknown means that both searches ended without a proof", and a shortage is returned
+-- (request 5). It is never refused (`CallClaims.second-taken`)
 unfoldable pub refuted : Outcome → Status
 refuted (proved r n u f t) = settled Unsolvable
 refuted (unprovable n u f t) = settled Unknown
-refuted (shortage l n) = settled Unknown
-refuted (refused f i) = settled Unknown
+refuted (shortage l n) = ranShort l n
+refuted (refused f i) = rejected f i
 
 -- the status by the first search's outcome, whether the goal is open, and the second search's outcome
 unfoldable pub judged : Outcome → Bool → Outcome → Status

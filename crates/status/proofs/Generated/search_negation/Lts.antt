@@ -27,6 +27,8 @@ use borrow.Rule.Slice.Mut
 use borrow.Rule.Slice.Relend
 use borrow.Rule.Slice.Shared
 use borrow.Rule.Yields
+use borrow.Struct.Make as Make'
+use borrow.Struct.Signed
 use borrow.Table.Copies
 use borrow.Table.Reads
 use borrow.Table.Referent
@@ -38,6 +40,7 @@ use denote.Array
 use denote.Enum.Declared
 use denote.Enum.Laws as Laws''
 use denote.Exit
+use denote.Struct.Field
 use denote.Triple.Clauses
 use denote.Triple.Statement
 use ghost.Atoms
@@ -377,7 +380,8 @@ b2 = Syntax.assign (Syntax.place 9 []) (Syntax.op2 (Syntax.lt Syntax.unsigned) (
     (Syntax.place 8 [])))
 
 abbrev b3 : Syntax.Body
-b3 = Syntax.assign (Syntax.place 0 []) (Syntax.aggregate ((Syntax.int Syntax.w8 2) ∷ []))
+b3 = Syntax.assign (Syntax.place 0 []) (Syntax.aggregate ((Syntax.int Syntax.w8 3) ∷ (Syntax.int Syntax.w64 8) ∷ (Syntax.int Syntax.w64
+    0) ∷ []))
 
 abbrev b4 : Syntax.Body
 b4 = Syntax.return
@@ -873,7 +877,7 @@ module _ (claims· : Claims) where
   s7 = Scalar.n-room T9 9 Syntax.tyBool
 
   abbrev s8 : Typed.Mo T10 → Typed.Mo T11
-  s8 = Make.n-enum-make Status.the-type T10 0 λ m. Status.enum .make (Logic.inr (Logic.inr (Logic.inl tt)))
+  s8 = Make.n-enum-make Status.the-type T10 0 λ m. Status.enum .make (Logic.inr (Logic.inr (Logic.inr (Logic.inl (8, (0, tt))))))
 
   abbrev s9 : Typed.Mo T11 → Typed.Mo T12
   s9 = Scalar.n-room T11 2 y0
@@ -1703,10 +1707,20 @@ module _ (claims· : Claims) where
 
           d4 : Typed.Typed 𝓤 H A 𝓣 E G10 b5 Δ1 at4
           d4 = Typed.s-seq 𝓤 H A W 𝓣 E G10 G11 b3 b4 Δ1 (Typed.pass T10 T11 s8) at3 (Make.t-enum-make-wt 𝓤 H A W E 𝓣 Status.the-type
-              Laws'.the-laws Laws'.the-plain tt G10 0 ((Scalar.oInt Syntax.w8 2) ∷ []) (λ m. Status.enum .make (Logic.inr (Logic.inr
-              (Logic.inl tt)))) (Reads.room-gone 𝓤 H A y10) (tt, tt) Path'.refl (λ m wa. Make.made-val Status.the-type Laws'.the-laws []
-              (Status.enum .make (Logic.inr (Logic.inr (Logic.inl tt)))) tt (wa .1)) λ m wa. Make.made-is Status.the-type Laws'.the-laws
-              [] (Status.enum .make (Logic.inr (Logic.inr (Logic.inl tt)))) tt (wa .1)) d3
+              Laws'.the-laws Laws'.the-plain tt G10 0 ((Scalar.oInt Syntax.w8 3) ∷ (Scalar.oInt Syntax.w64 8) ∷ (Scalar.oInt Syntax.w64
+              0) ∷ []) (λ m. Status.enum .make (Logic.inr (Logic.inr (Logic.inr (Logic.inl (8, (0, tt))))))) (Reads.room-gone 𝓤 H A y10)
+              (tt, (tt, (tt, tt))) Path'.refl (λ m wa. Make.made-val Status.the-type Laws'.the-laws ((Laws'.the-laws .1 .1 .1 .0 .0 .val
+              8) ∷ (Laws'.the-laws .1 .1 .1 .0 .1 .0 .val 0) ∷ []) (Status.enum .make (Logic.inr (Logic.inr (Logic.inr (Logic.inl
+              (8, (0, tt))))))) (
+                Signed.made-wt Field.u64-field (Laws'.the-laws .1 .1 .1 .0 .0) Make'.u64-wt 8,
+                (Signed.made-wt Field.u64-field (Laws'.the-laws .1 .1 .1 .0 .1 .0) Make'.u64-wt 0, tt),  -- told apart: 1.
+              ) (wa .1)) λ m wa. Make.made-is
+              Status.the-type Laws'.the-laws ((Laws'.the-laws .1 .1 .1 .0 .0 .val 8) ∷ (Laws'.the-laws .1 .1 .1 .0 .1 .0 .val 0) ∷ [])
+              (Status.enum .make (Logic.inr (Logic.inr (Logic.inr (Logic.inl (8, (0, tt))))))) (
+                Signed.made-wt Field.u64-field  -- told apart: 2.
+                    (Laws'.the-laws .1 .1 .1 .0 .0) Make'.u64-wt 8,
+                (Signed.made-wt Field.u64-field (Laws'.the-laws .1 .1 .1 .0 .1 .0) Make'.u64-wt 0, tt),  -- told apart: 3.
+              ) (wa .1)) d3
 
           d5 : Typed.Typed 𝓤 H A 𝓣 E G9 b5 Δ1 at5
           d5 = Typed.g-pre 𝓤 H A W 𝓣 E G9 G10 b5 Δ1 (Typed.pass T9 T10 s7) at4 (Scalar.g-room 𝓤 H A W E G9 9 Syntax.tyBool
