@@ -76,16 +76,20 @@ static struct expected settled(struct expected expected)
     return expected;
 }
 
-static void expect(struct checks *checks, int who, const struct search *lent, const char *what, struct expected expected)
+static void expect_of(struct checks *checks, int who, const struct search *lent, const char *what, struct expected expected)
 {
     for (size_t i = 0; i < JUNKS; i++) {
         bool kept;
-        quaysaffron_answer answer = ask_over(checks, lent, junks[i], PROVE, &kept);
+        quaysaffron_answer answer = ask_over(checks, lent, junks[i], who, &kept);
         check(checks, kept && as_expected(&answer, expected), what);
-        if (who == STATUS_TOO) {
-            answer = ask_over(checks, lent, junks[i], STATUS_TOO, &kept);
-            check(checks, kept && as_expected(&answer, settled(expected)), what);
-        }
+    }
+}
+
+static void expect(struct checks *checks, int who, const struct search *lent, const char *what, struct expected expected)
+{
+    expect_of(checks, PROVE, lent, what, expected);
+    if (who == STATUS_TOO) {
+        expect_of(checks, STATUS_TOO, lent, what, settled(expected));
     }
 }
 
@@ -383,6 +387,47 @@ static void contexts_and_levels(struct checks *checks)
     }
 }
 
+/* p8192, or p8192&(p8192->F): only the second search of the status needs the two added words and nodes. */
+static struct search lay_open(struct checks *checks, bool both_ways)
+{
+    struct book *book = start(checks);
+    size_t leaf = atom(book, QUAYSAFFRON_FIRST_FREE_SYMBOL);
+    book->goal = leaf;
+    if (both_ways) {
+        size_t falsity = join(book, QUAYSAFFRON_FALSE, 0, 0);
+        book->goal = join(book, QUAYSAFFRON_AND, leaf, join(book, QUAYSAFFRON_IMPL, leaf, falsity));
+    }
+    return ample(checks);
+}
+
+/* Both sides of what the two searches need of a goal: the last step limit of each, and the last count of nodes, suffice. */
+static void second_search(struct checks *checks, bool both_ways, size_t most_steps, size_t most_nodes, const size_t steps_short[])
+{
+    struct expected verdict = {both_ways ? QUAYSAFFRON_UNSOLVABLE : QUAYSAFFRON_UNKNOWN, 0, 0, 0};
+    struct search lent = lay_open(checks, both_ways);
+    for (lent.steps = 0; lent.steps < most_steps; lent.steps++) {
+        expect_of(checks, STATUS_TOO, &lent, "6: too few steps for a status", lacking(QUAYSAFFRON_STEPS, lent.steps));
+    }
+    expect_of(checks, STATUS_TOO, &lent, "as many steps as a status needs", verdict);
+    for (lent.words_length = lent.count; lent.words_length < lent.count + 2; lent.words_length++) {
+        expect_of(checks, STATUS_TOO, &lent, "8: no room for the two words", lacking(QUAYSAFFRON_FORMULAS, 0));
+    }
+    expect_of(checks, STATUS_TOO, &lent, "room for the two words", verdict);
+    for (size_t nodes = 0; nodes < most_nodes; nodes++) {
+        lent.terms_length = nodes * NODE;
+        expect_of(checks, STATUS_TOO, &lent, "9: too few nodes for a status", lacking(QUAYSAFFRON_TERMS, steps_short[nodes]));
+    }
+    lent.terms_length = most_nodes * NODE;
+    expect_of(checks, STATUS_TOO, &lent, "as many nodes as a status needs", verdict);
+}
+
+static void second_searches(struct checks *checks)
+{
+    static const size_t one_node[] = {1}, six_nodes[] = {1, 3, 3, 7, 8, 8};
+    second_search(checks, false, 5, 1, one_node);
+    second_search(checks, true, 8, 6, six_nodes);
+}
+
 void check_searches(struct checks *checks)
 {
     lengths_of_words(checks);
@@ -397,4 +442,5 @@ void check_searches(struct checks *checks)
     generated_names(checks);
     formulas(checks);
     contexts_and_levels(checks);
+    second_searches(checks);
 }

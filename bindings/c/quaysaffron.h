@@ -89,11 +89,11 @@ extern "C" {
 /* Kinds of answers. */
 #define QUAYSAFFRON_PROVED 1
 #define QUAYSAFFRON_UNPROVABLE 2 /* no term of any size derives the goal */
-#define QUAYSAFFRON_SHORT 3 /* the search would pass a limit: numbers 6 to 11 */
+#define QUAYSAFFRON_SHORT 3 /* a search would pass a limit: numbers 6 to 11 */
 #define QUAYSAFFRON_REFUSED 4 /* numbers 1 to 5 */
 #define QUAYSAFFRON_SOLVABLE 5 /* this and the next two: of a status alone */
 #define QUAYSAFFRON_UNSOLVABLE 6
-#define QUAYSAFFRON_UNKNOWN 7
+#define QUAYSAFFRON_UNKNOWN 7 /* no term of any size derives the goal or its negation */
 
 /* The numbers that come back. 0 is none of them. Of several refusals the lowest number comes back, but for a text 13 comes before 12, and
  * for a house file 14 before all others. */
@@ -190,8 +190,9 @@ size_t quaysaffron_prove(uint32_t *words, size_t words_length, size_t count, con
                          quaysaffron_record *work, size_t work_length, size_t steps, quaysaffron_answer *answer);
 
 /* The status of a goal without assumptions: SOLVABLE if it is proved; else UNSOLVABLE if no ForAll, Exists or free symbol occurs in it,
- * or if goal->False, for which 2 words are added, is proved; else UNKNOWN. A shortage of the first search is SHORT, one of the second
- * UNKNOWN. Lent as above; refused with 1, 2 and 5 alone. Returns answer->number: 0 for every verdict, so answer->kind must be looked at.
+ * or if goal->False, for which 2 words are added, is proved; else UNKNOWN: both searches ended without a proof. A shortage of either
+ * search is SHORT with that search's own steps, each having the whole step limit; no room for the 2 words is QUAYSAFFRON_FORMULAS, steps 0.
+ * Lent as above; refused with 1, 2 and 5 alone. Returns answer->number: 0 for every verdict, so answer->kind must be looked at.
  * Afterwards words holds the given ones, unchanged, and zero behind them, terms and work are zero; or, if REFUSED, all are unchanged. */
 size_t quaysaffron_status(uint32_t *words, size_t words_length, size_t count, size_t goal, uint16_t *terms, size_t terms_length,
                           quaysaffron_record *work, size_t work_length, size_t steps, quaysaffron_answer *answer);

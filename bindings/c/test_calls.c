@@ -142,8 +142,8 @@ static bool run_cases(const struct list *list, struct room *room)
     return kept;
 }
 
-/* Counts of what came back: proofs, the table's numbers, claims without a proof, files that are not refused. */
-enum { PROVED = 0, UNPROVABLE = QUAYSAFFRON_BAD_FILE + 1, PRINTED, KINDS };
+/* Counts of what came back: proofs, the table's numbers, claims without a proof, files that are not refused, statuses with a verdict. */
+enum { PROVED = 0, UNPROVABLE = QUAYSAFFRON_BAD_FILE + 1, PRINTED, SETTLED, KINDS };
 
 static size_t kind_of(size_t kind, const struct outcome *outcome)
 {
@@ -152,6 +152,9 @@ static size_t kind_of(size_t kind, const struct outcome *outcome)
     }
     if (kind == FILE_BYTES) {
         return PRINTED;
+    }
+    if (kind == STATUS) {
+        return SETTLED;
     }
     if (outcome->writer != 0) {
         return outcome->writer;
@@ -174,7 +177,8 @@ static bool as_expected(const struct list *list, size_t row, const struct outcom
 
 static void show_tally(const size_t tally[KINDS], size_t equal, size_t different)
 {
-    printf("proved %zu, unprovable %zu, files answered %zu\n", tally[PROVED], tally[UNPROVABLE], tally[PRINTED]);
+    printf("proved %zu, unprovable %zu", tally[PROVED], tally[UNPROVABLE]);
+    printf(", files answered %zu, statuses settled %zu\n", tally[PRINTED], tally[SETTLED]);
     for (size_t n = QUAYSAFFRON_SIZES; n <= QUAYSAFFRON_BAD_FILE; n++) {
         printf("%zu: %zu\n", n, tally[n]);
     }

@@ -85,7 +85,7 @@ pub enum Status {
     Solvable,
     /// It is not proved and has neither quantified formulas nor free symbols; or its negation is proved.
     Unsolvable,
-    /// Neither it nor, within the limits, its negation is proved.
+    /// It has a quantified formula or a free symbol, and no term of any size derives it or its negation.
     Unknown,
 }
 
@@ -150,8 +150,8 @@ impl Prover {
         }
     }
 
-    /// The status of a goal without assumptions. A shortage is that of the search for the goal; one in the search for its negation is
-    /// [`Unknown`](Status::Unknown).
+    /// The status of a goal without assumptions. A shortage is that of the search for the goal or of the one for its negation, with that
+    /// search's own steps: each has all of [`Limits::steps`]. The negation takes 2 formulas more.
     ///
     /// ```
     /// use quaysaffron::{Book, Prover, Status};

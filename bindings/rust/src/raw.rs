@@ -114,7 +114,7 @@ pub const REFUSED: usize = 4;
 pub const SOLVABLE: usize = 5;
 /// The kind of a status: the goal is refuted, or is closed and not proved.
 pub const UNSOLVABLE: usize = 6;
-/// The kind of a status: neither is shown.
+/// The kind of a status: the goal is open, and no term of any size derives it or its negation.
 pub const UNKNOWN: usize = 7;
 
 /// Number 1: something lent does not have its size.
@@ -358,7 +358,8 @@ pub fn prove(
 /// The status of a goal without assumptions; lent as to [`prove`], refused with [`SIZES`], [`BAD_FORMULA`] and [`BAD_GOAL`] alone.
 ///
 /// [`SOLVABLE`] if the goal is proved; else [`UNSOLVABLE`] if no ForAll, Exists or free symbol occurs in it, or if its negation, for
-/// which 2 words are added, is proved; else [`UNKNOWN`]. A shortage of the first search is [`SHORT`], one of the second [`UNKNOWN`].
+/// which 2 words are added, is proved; else [`UNKNOWN`]: both searches ended without a proof. A shortage of either search is [`SHORT`]
+/// with that search's own steps, each having the whole step limit; no room for the 2 words is [`FORMULAS`] with 0 steps.
 /// Afterwards `words` holds the given ones, unchanged, then zero, and `terms` and `work` are zero; if [`REFUSED`], all are unchanged.
 pub fn status(
     words: &mut [u32],

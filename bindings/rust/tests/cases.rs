@@ -10,6 +10,7 @@ const WHOLE_TEXT: &str = "(fn a (abort (app (as (fn c (app a (inr c))) (> (> p0 
     (fn f (abort (app (as (fn b (app a (inl b))) (> p0 F)) f))))))";
 const TIPS_TEXT: &str = "(case someone_closed a (inl (app (app rule_ana a) left_over)) \
     b (case b c (inr (inl (app (app rule_ben c) left_over))) d (inr (inr (app (app rule_cleo d) left_over)))))";
+const BOTH_WAYS: &str = "(& p8192 (> p8192 F))";
 const EITHER: Assumed = &[("x", "(| p0 p1)")];
 const FIRED: Assumed = &[("x", "p0"), ("y", "(> p0 p1)"), ("z", "(> p0 p2)")];
 
@@ -105,7 +106,7 @@ fn status() {
         ("p16383", Status::Unknown),
         ("U0", Status::Unknown),
         ("E0", Status::Unknown),
-        ("(& p8192 (> p8192 F))", Status::Unsolvable),
+        (BOTH_WAYS, Status::Unsolvable),
     ];
     for (goal, status) in cases {
         let case = Case::new(&[], goal);
@@ -117,38 +118,64 @@ fn status() {
     assert_eq!(prover.status(&book, free), Ok(Status::Unknown));
 }
 
-/// A shortage in the first search is told, one in the second is Unknown.
-#[test]
-fn status_at_a_step_limit() {
-    let case = Case::new(&[], "(& p8192 (> p8192 F))");
-    let said = |steps| {
-        let limits = Limits {
-            steps,
-            ..Limits::default()
-        };
-        Prover::with_limits(limits).status(&case.book, case.goal)
-    };
-    assert_eq!(said(0), Err(Refusal::Steps { steps: 0 }));
-    assert_eq!(said(3), Err(Refusal::Steps { steps: 3 }));
-    assert_eq!(said(4), Ok(Status::Unknown));
-    assert_eq!(said(7), Ok(Status::Unknown));
-    assert_eq!(said(8), Ok(Status::Unsolvable));
+/// The status of a goal under limits that differ from the default.
+fn status_under(goal: &str, changed: impl Fn(&Case) -> Limits) -> Result<Status, Refusal> {
+    let case = Case::new(&[], goal);
+    Prover::with_limits(changed(&case)).status(&case.book, case.goal)
 }
 
-/// A status needs room for two words more.
+/// A shortage of either search is told with its own steps: the first takes 4 of both ways and 3 of p8192, the second 8 and 5.
+#[test]
+fn status_at_a_step_limit() {
+    let said = |goal, steps| {
+        status_under(goal, |_| Limits {
+            steps,
+            ..Limits::default()
+        })
+    };
+    for steps in [0, 3, 4, 7] {
+        assert_eq!(said(BOTH_WAYS, steps), Err(Refusal::Steps { steps }));
+    }
+    assert_eq!(said(BOTH_WAYS, 8), Ok(Status::Unsolvable));
+    for steps in [2, 3, 4] {
+        assert_eq!(said("p8192", steps), Err(Refusal::Steps { steps }));
+    }
+    assert_eq!(said("p8192", 5), Ok(Status::Unknown));
+}
+
+/// The second search needs room for two words more, the first for none.
 #[test]
 fn status_at_a_word_limit() {
-    let case = Case::new(&[], "(& p8192 (> p8192 F))");
-    let said = |more| {
-        let formulas = case.book.words().len() + more;
-        let limits = Limits {
-            formulas,
+    let said = |goal, more| {
+        status_under(goal, |case| Limits {
+            formulas: case.book.words().len() + more,
             ..Limits::default()
-        };
-        Prover::with_limits(limits).status(&case.book, case.goal)
+        })
     };
-    assert_eq!(said(1), Ok(Status::Unknown));
-    assert_eq!(said(2), Ok(Status::Unsolvable));
+    for (goal, status) in [(BOTH_WAYS, Status::Unsolvable), ("p8192", Status::Unknown)] {
+        for more in [0, 1] {
+            assert_eq!(said(goal, more), Err(Refusal::Formulas { steps: 0 }));
+        }
+        assert_eq!(said(goal, 2), Ok(status));
+    }
+    assert_eq!(said("p0", 0), Ok(Status::Unsolvable));
+}
+
+/// Of these goals only the second search makes nodes.
+#[test]
+fn status_at_a_node_limit() {
+    let said = |goal, terms| {
+        status_under(goal, |_| Limits {
+            terms,
+            ..Limits::default()
+        })
+    };
+    for (terms, steps) in [(0, 1), (2, 3), (3, 7), (5, 8)] {
+        assert_eq!(said(BOTH_WAYS, terms), Err(Refusal::Terms { steps }));
+    }
+    assert_eq!(said(BOTH_WAYS, 6), Ok(Status::Unsolvable));
+    assert_eq!(said("p8192", 0), Err(Refusal::Terms { steps: 1 }));
+    assert_eq!(said("p8192", 1), Ok(Status::Unknown));
 }
 
 #[test]

@@ -204,7 +204,7 @@ fn status() {
     assert_eq!(asked(&[P0], 0, 9), verdict(raw::UNSOLVABLE));
     assert_eq!(asked(&[FREE], 0, 9), verdict(raw::UNKNOWN));
     assert_eq!(asked(&negated, 3, 8), verdict(raw::UNSOLVABLE));
-    assert_eq!(asked(&negated, 3, 7), verdict(raw::UNKNOWN));
+    assert_eq!(asked(&negated, 3, 7), short(raw::STEPS, 7));
     assert_eq!(asked(&negated, 3, 3), short(raw::STEPS, 3));
 }
 

@@ -2,7 +2,7 @@
 mod common;
 
 use common::{lines, Random};
-use quaysaffron::{output, Claim, Limits, Outcome, Prover, Refusal, Status};
+use quaysaffron::{output, raw, Book, Claim, Limits, Outcome, Prover, Refusal, Status};
 
 const BOOKS: usize = 10_000;
 
@@ -72,34 +72,49 @@ fn more_room_changes_no_answer() {
     }
 }
 
-/// A goal is solvable exactly where a claim of it alone is proved; where its negation is proved it is unsolvable.
+/// Whether a quantified formula or a free symbol occurs in the formula at this index.
+fn open(words: &[u32], index: usize) -> bool {
+    let field = |shift| words[index] as usize >> shift & 0x3fff;
+    match words[index] as usize & 15 {
+        raw::FOR_ALL | raw::EXISTS => true,
+        raw::ATOM => field(4) >= Book::FIRST_FREE_SYMBOL as usize,
+        raw::AND | raw::OR | raw::IMPL => open(words, field(4)) || open(words, field(18)),
+        _ => false,
+    }
+}
+
+/// A status is what claims of the goal and, where that is open and has no proof, of its negation say; so is a shortage, with its steps.
 #[test]
 fn a_status_is_what_claims_say() {
     let mut random = Random(5);
-    let mut prover = Prover::new();
-    let mut met = [0; 3];
-    for _ in 0..BOOKS / 5 {
+    let mut met = [0; 5];
+    for _ in 0..BOOKS {
         let mut case = random.case();
-        let status = match prover.status(&case.book, case.goal) {
-            Ok(status) => status,
-            Err(refusal) => {
-                assert_eq!(
-                    prover.prove(&Claim::new(&case.book, case.goal)),
-                    Err(refusal)
-                );
-                continue;
-            }
+        let mut prover = Prover::with_limits(Limits {
+            terms: random.below(24),
+            steps: 10 + random.below(60),
+            ..Limits::default()
+        });
+        let status = prover.status(&case.book, case.goal);
+        let mut proved = |book: &Book, goal| {
+            let said = prover.prove(&Claim::new(book, goal));
+            said.map(|outcome| outcome.derivation().is_some())
         };
+        let first = proved(&case.book, case.goal);
+        let asks = first == Ok(false) && open(case.book.words(), case.goal.index());
         let negation = case.book.not(case.goal);
-        let mut holds = |goal| {
-            matches!(
-                prover.prove(&Claim::new(&case.book, goal)),
-                Ok(Outcome::Proved(_))
-            )
+        let (met_as, said) = match first {
+            Ok(true) => (0, Ok(Status::Solvable)),
+            Ok(false) if !asks => (1, Ok(Status::Unsolvable)),
+            Err(refusal) => (2, Err(refusal)),
+            Ok(false) => match proved(&case.book, negation) {
+                Ok(true) => (1, Ok(Status::Unsolvable)),
+                Ok(false) => (3, Ok(Status::Unknown)),
+                Err(refusal) => (4, Err(refusal)),
+            },
         };
-        assert_eq!(holds(case.goal), status == Status::Solvable);
-        assert!(!holds(negation) || status == Status::Unsolvable);
-        met[status as usize] += 1;
+        assert_eq!(status, said);
+        met[met_as] += 1;
     }
-    assert!(met.iter().all(|times| *times > 20), "{met:?}");
+    assert!(met.iter().all(|times| *times > BOOKS / 100), "{met:?}");
 }

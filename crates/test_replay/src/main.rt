@@ -69,8 +69,8 @@ fn runs_equal(list: &[u8], row: usize, book: usize, i: usize, tally: &mut [usize
     let mut space = [test_runs::junk(list, row); test_runs::MOST_TEXT];
     let answer = test_runs::run(list, row, book, &mut space);
     let call = answer.call;
-    let file = test_runs::kind(list, row) == test_runs::FILE;
-    tally::count(tally, tally::kind(file, call[0], answer.writer, call[6]));
+    let asked = test_runs::kind(list, row);
+    tally::count(tally, tally::kind(asked, call[0], answer.writer, call[6]));
     if same(list, row, answer) {
         return true;
     }

@@ -1,5 +1,5 @@
-// Counts of what came back: the proofs, the table's numbers, the claims without a proof, the files that are not refused, and the rows that
-// are as expected or not.
+// Counts of what came back: the proofs, the table's numbers, the claims without a proof, the files that are not refused, the statuses with
+// a verdict, and the rows that are as expected or not.
 use test_lists::number;
 use test_lists::text;
 
@@ -11,11 +11,13 @@ const UNPROVABLE: usize = 15;
 
 const PRINTED: usize = 16;
 
-const EQUAL: usize = 17;
+const SETTLED: usize = 17;
 
-pub const DIFFERENT: usize = 18;
+const EQUAL: usize = 18;
 
-pub const KINDS: usize = 19;
+pub const DIFFERENT: usize = 19;
+
+pub const KINDS: usize = 20;
 
 // How often a kind was counted.
 pub fn of(tally: &[usize], k: usize) -> usize {
@@ -34,13 +36,16 @@ pub fn count(tally: &mut [usize], k: usize) {
     }
 }
 
-// The call's number, or else the writer's; only a proof has nodes.
-pub fn kind(file: bool, number: usize, writer: usize, terms: usize) -> usize {
+// The call's number, or else the writer's, by what the row asks for; only a proof has nodes.
+pub fn kind(asked: usize, number: usize, writer: usize, terms: usize) -> usize {
     if number != 0 {
         return number;
     }
-    if file {
+    if asked == test_runs::FILE {
         return PRINTED;
+    }
+    if asked == test_runs::STATUS {
+        return SETTLED;
     }
     if writer != 0 {
         return writer;
@@ -80,6 +85,7 @@ pub fn show(tally: &[usize]) {
     number(b"proved ", of(tally, PROVED));
     number(b", unprovable ", of(tally, UNPROVABLE));
     number(b", files answered ", of(tally, PRINTED));
+    number(b", statuses settled ", of(tally, SETTLED));
     text(b"\n");
     refusals(tally);
     number(b"", of(tally, EQUAL));

@@ -1,4 +1,4 @@
--- `search_negation`: with no room it says nothing; else the second claim is searched. Assumes nothing.
+-- `search_negation`: with no room it is short of formulas; else the second claim is searched. Assumes nothing.
 mod Tie
 use borrow.Author.Needs.{needs}
 use mathlib.Core.Path.{refl, _∙_}
