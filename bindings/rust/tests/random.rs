@@ -74,7 +74,7 @@ fn more_room_changes_no_answer() {
 
 /// Whether a quantified formula or a free symbol occurs in the formula at this index.
 fn open(words: &[u32], index: usize) -> bool {
-    let field = |shift| words[index] as usize >> shift & 0x3fff;
+    let field = |shift: u32| words[index] as usize >> shift & 0x3fff;
     match words[index] as usize & 15 {
         raw::FOR_ALL | raw::EXISTS => true,
         raw::ATOM => field(4) >= Book::FIRST_FREE_SYMBOL as usize,
