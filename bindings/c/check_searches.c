@@ -3,8 +3,8 @@
 
 #include <string.h>
 
-/* Who is asked. */
-enum { PROVE = 1, STATUS_TOO = 2 };
+/* Who is asked: the search, the status, or both. */
+enum { PROVE = 1, STATUS_ALONE, STATUS_TOO };
 
 /* What must come back. */
 struct expected {
@@ -89,7 +89,7 @@ static void expect(struct checks *checks, int who, const struct search *lent, co
 {
     expect_of(checks, PROVE, lent, what, expected);
     if (who == STATUS_TOO) {
-        expect_of(checks, STATUS_TOO, lent, what, settled(expected));
+        expect_of(checks, STATUS_ALONE, lent, what, settled(expected));
     }
 }
 
@@ -400,25 +400,25 @@ static struct search lay_open(struct checks *checks, bool both_ways)
     return ample(checks);
 }
 
-/* Both sides of what the two searches need of a goal: the last step limit of each, and the last count of nodes, suffice. */
-static void second_search(struct checks *checks, bool both_ways, size_t most_steps, size_t most_nodes, const size_t steps_short[])
+/* A status on both sides of the steps and nodes that suffice, and of the two words; at_nodes: the steps at which fewer nodes run short. */
+static void second_search(struct checks *checks, bool both_ways, size_t steps, size_t nodes, const size_t at_nodes[])
 {
     struct expected verdict = {both_ways ? QUAYSAFFRON_UNSOLVABLE : QUAYSAFFRON_UNKNOWN, 0, 0, 0};
     struct search lent = lay_open(checks, both_ways);
-    for (lent.steps = 0; lent.steps < most_steps; lent.steps++) {
-        expect_of(checks, STATUS_TOO, &lent, "6: too few steps for a status", lacking(QUAYSAFFRON_STEPS, lent.steps));
+    for (lent.steps = 0; lent.steps < steps; lent.steps++) {
+        expect_of(checks, STATUS_ALONE, &lent, "6: too few steps for a status", lacking(QUAYSAFFRON_STEPS, lent.steps));
     }
-    expect_of(checks, STATUS_TOO, &lent, "as many steps as a status needs", verdict);
+    expect_of(checks, STATUS_ALONE, &lent, "as many steps as a status needs", verdict);
     for (lent.words_length = lent.count; lent.words_length < lent.count + 2; lent.words_length++) {
-        expect_of(checks, STATUS_TOO, &lent, "8: no room for the two words", lacking(QUAYSAFFRON_FORMULAS, 0));
+        expect_of(checks, STATUS_ALONE, &lent, "8: no room for the two words", lacking(QUAYSAFFRON_FORMULAS, 0));
     }
-    expect_of(checks, STATUS_TOO, &lent, "room for the two words", verdict);
-    for (size_t nodes = 0; nodes < most_nodes; nodes++) {
-        lent.terms_length = nodes * NODE;
-        expect_of(checks, STATUS_TOO, &lent, "9: too few nodes for a status", lacking(QUAYSAFFRON_TERMS, steps_short[nodes]));
+    expect_of(checks, STATUS_ALONE, &lent, "room for the two words", verdict);
+    for (size_t few = 0; few < nodes; few++) {
+        lent.terms_length = few * NODE;
+        expect_of(checks, STATUS_ALONE, &lent, "9: too few nodes for a status", lacking(QUAYSAFFRON_TERMS, at_nodes[few]));
     }
-    lent.terms_length = most_nodes * NODE;
-    expect_of(checks, STATUS_TOO, &lent, "as many nodes as a status needs", verdict);
+    lent.terms_length = nodes * NODE;
+    expect_of(checks, STATUS_ALONE, &lent, "as many nodes as a status needs", verdict);
 }
 
 static void second_searches(struct checks *checks)

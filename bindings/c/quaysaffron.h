@@ -89,7 +89,7 @@ extern "C" {
 /* Kinds of answers. */
 #define QUAYSAFFRON_PROVED 1
 #define QUAYSAFFRON_UNPROVABLE 2 /* no term of any size derives the goal */
-#define QUAYSAFFRON_SHORT 3 /* a search would pass a limit: numbers 6 to 11 */
+#define QUAYSAFFRON_SHORT 3 /* the search, of a status either of the two, would pass a limit: numbers 6 to 11 */
 #define QUAYSAFFRON_REFUSED 4 /* numbers 1 to 5 */
 #define QUAYSAFFRON_SOLVABLE 5 /* this and the next two: of a status alone */
 #define QUAYSAFFRON_UNSOLVABLE 6

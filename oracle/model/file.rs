@@ -106,25 +106,34 @@ fn checksum(text: &[u8]) -> usize {
     b * 65536 + a
 }
 
-/// The seven numbers of the call; then the writer's number, and the length and the checksum of the text.
+/// The seven numbers of the call or of the status; then those of the text.
 pub fn numbers_line(bs: &[u8], options: &Options) -> Vec<u8> {
     let Some(x) = decoded(bs) else {
         return b"14 0 0 0 0 0 0 0 0 0\n".to_vec();
     };
-    if options.status {
-        let seven = status_numbers(&x, options).map(|n| n.to_string());
-        return format!("{} 0 0 0\n", seven.join(" ")).into_bytes();
-    }
-    let outcome = called(&claim_of(&x, x.goals[0], options));
-    let seven = numbers(&outcome, x.words.len()).map(|n| n.to_string());
-    let text = match &outcome {
-        Proved(root, s) => match written(s, *root, &options.lent) {
-            Some(text) => format!("0 {} {}", text.len(), checksum(&text)),
-            None => "12 0 0".to_string(),
-        },
-        _ => "0 0 0".to_string(),
+    let (seven, three) = if options.status {
+        (status_numbers(&x, options), [0; 3])
+    } else {
+        let outcome = called(&claim_of(&x, x.goals[0], options));
+        (
+            numbers(&outcome, x.words.len()),
+            text_numbers(&outcome, options),
+        )
     };
-    format!("{} {text}\n", seven.join(" ")).into_bytes()
+    let numbers = [&seven[..], &three[..]].concat();
+    let words: Vec<String> = numbers.iter().map(|n| n.to_string()).collect();
+    (words.join(" ") + "\n").into_bytes()
+}
+
+/// The writer's number, and the length and the checksum of the text.
+fn text_numbers(outcome: &Outcome, options: &Options) -> [usize; 3] {
+    let Proved(root, s) = outcome else {
+        return [0; 3];
+    };
+    match written(s, *root, &options.lent) {
+        Some(text) => [0, text.len(), checksum(&text)],
+        None => [12, 0, 0],
+    }
 }
 
 pub fn printed(bs: &[u8], options: &Options) -> Vec<u8> {

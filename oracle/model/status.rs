@@ -22,7 +22,7 @@ pub fn open_forms(words: &[usize]) -> Vec<bool> {
 
 pub fn second_outcome(x: &Claim) -> Outcome {
     let count = x.words.len();
-    if count + 2 > x.lent.words {
+    if !x.lent.free && count + 2 > x.lent.words {
         return Shortage(Lack::Formulas, 0);
     }
     let words = [x.words, &[1, 5 + 16 * x.goal + 262144 * count]].concat();
@@ -33,14 +33,13 @@ pub fn second_outcome(x: &Claim) -> Outcome {
     })
 }
 
-#[derive(Clone, Copy)]
-pub enum Verdict {
+enum Verdict {
     Solvable = 1,
     Unsolvable = 2,
     Unknown = 3,
 }
 
-/// A verdict, or the shortage or refusal of the search that had it.
+/// A verdict, or the outcome of the search that ran short or was refused.
 fn asked(x: &File, options: &Options) -> Result<Verdict, Outcome> {
     let first = Claim {
         words: &x.words,
@@ -55,9 +54,9 @@ fn asked(x: &File, options: &Options) -> Result<Verdict, Outcome> {
         Unprovable(..) => match second_outcome(&first) {
             Proved(..) => Ok(Verdict::Unsolvable),
             Unprovable(..) => Ok(Verdict::Unknown),
-            short => Err(short),
+            outcome => Err(outcome),
         },
-        refused => Err(refused),
+        outcome => Err(outcome),
     }
 }
 

@@ -106,7 +106,7 @@ pub const UNIT: u16 = 12;
 pub const PROVED: usize = 1;
 /// The kind of an answer: no term of any size derives the goal.
 pub const UNPROVABLE: usize = 2;
-/// The kind of an answer: the search would pass a limit, numbers 6 to 11.
+/// The kind of an answer: the search, of a status either of the two, would pass a limit, numbers 6 to 11.
 pub const SHORT: usize = 3;
 /// The kind of an answer: what was lent is not as it must be, numbers 1 to 5.
 pub const REFUSED: usize = 4;

@@ -7,8 +7,8 @@ use Refusal::*;
 /// Why there is no answer: a row of the table of docs/REFERENCE.md, section 3.
 ///
 /// [`Sizes`](Refusal::Sizes) to [`BadGoal`](Refusal::BadGoal) refuse what was given, and the lowest row comes back.
-/// [`Steps`](Refusal::Steps) to [`Levels`](Refusal::Levels) are shortages: the search would pass that limit, after it entered so many
-/// steps, and nothing is said of the claim.
+/// [`Steps`](Refusal::Steps) to [`Levels`](Refusal::Levels) are shortages: the search, of a status either of the two, would pass that
+/// limit, after it entered so many steps, and nothing is said of the claim.
 #[derive(Clone, Copy, Debug, PartialEq, Eq, Hash)]
 #[non_exhaustive]
 pub enum Refusal {
@@ -43,7 +43,7 @@ pub enum Refusal {
     },
     /// 8: the search would pass the lent words.
     Formulas {
-        /// The steps entered.
+        /// The steps entered; 0 where a status has no room for the two formulas that its second search adds.
         steps: usize,
     },
     /// 9: the search would pass the lent nodes.

@@ -72,13 +72,14 @@ fn more_room_changes_no_answer() {
     }
 }
 
-/// Whether a quantified formula or a free symbol occurs in the formula at this index.
+/// Whether a quantified formula or a free symbol occurs in the formula at this index. A word is a kind of 4 bits and two fields of 14.
 fn open(words: &[u32], index: usize) -> bool {
-    let field = |shift: u32| words[index] as usize >> shift & 0x3fff;
-    match words[index] as usize & 15 {
+    let word = words[index] as usize;
+    let (kind, left, right) = (word % 16, word / 16 % 16384, word / 16 / 16384);
+    match kind {
         raw::FOR_ALL | raw::EXISTS => true,
-        raw::ATOM => field(4) >= Book::FIRST_FREE_SYMBOL as usize,
-        raw::AND | raw::OR | raw::IMPL => open(words, field(4)) || open(words, field(18)),
+        raw::ATOM => left >= Book::FIRST_FREE_SYMBOL.into(),
+        raw::AND | raw::OR | raw::IMPL => open(words, left) || open(words, right),
         _ => false,
     }
 }

@@ -1,5 +1,5 @@
 // Limits, states, sequents and answers of the search, the small moves on states, and the test of a charge: theory's Meter in numbers.
-// What is `pub` here is for the search's own crates: a `requires` is what their code shows before it calls.
+// What is `pub` here is for the search's own crates, and FORMULAS for the status: a `requires` is what their code shows before it calls.
 ghost use mathlib.Core.Path.{_≡_};
 ghost use Prim.Native.Nat.{_+_, _≤_, _<_};
 ghost use Rattle.theory.specs.Meter.{lacking};

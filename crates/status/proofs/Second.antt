@@ -9,6 +9,7 @@ use native.Mathlib.Omega.{arith}
 use lib.ListN.{length, set, take, drop, replicate}
 use lib.Seq.{take-at, take-take}
 use Rattle.theory.specs.Form.{Good, shape, form, word, pack, isBot, isImp}
+use Rattle.theory.specs.Meter.{Formulas}
 use Rattle.theory.specs.Refusal.{lackNumber}
 use Rattle.theory.specs.Call as C
 use Rattle.theory.specs.Call.{Claim, givenWords, givenBook, refusal, called}
@@ -29,12 +30,12 @@ use Rattle.status.specs.Whole.{inquiryOf, failedStatus}
 use Rattle.status.proofs.Lists.{two-stored}
 
 -- an outcome of the second search, turned into a status by the code and by theory
-same-verdict : (o : C.Outcome) → refutedAs (outcomeOf o) ≡ statusOf (refuted o)
+same-status : (o : C.Outcome) → refutedAs (outcomeOf o) ≡ statusOf (refuted o)
 unfolding refutedAs outcomeOf statusOf refuted
-same-verdict (C.proved r n u f t) = refl
-same-verdict (C.unprovable n u f t) = refl
-same-verdict (C.shortage l n) = refl
-same-verdict (C.refused f i) = refl
+same-status (C.proved r n u f t) = refl
+same-status (C.unprovable n u f t) = refl
+same-status (C.shortage l n) = refl
+same-status (C.refused f i) = refl
 
 module _ (f : List ℕ) (count goal : ℕ) (t : List ℕ) (w : List Rec) (steps : ℕ) where
   abbrev x : Inquiry
@@ -78,8 +79,8 @@ module _ (f : List ℕ) (count goal : ℕ) (t : List ℕ) (w : List Rec) (steps 
         ap (λ (b : Bool). statusOf (elim b as (λ v. S.Status) [ false ↦ settled S.Unsolvable | true ↦ refuted (secondOutcome x) ])) o
 
     -- no room for the two words: 8, and no step was entered
-    pub no-room : length f < count + 2 → Short 8 0 ≡ statusOf (refuted (secondOutcome x))
-    unfolding refuted statusOf lackNumber
+    pub no-room : length f < count + 2 → Short (lackNumber Formulas) 0 ≡ statusOf (refuted (secondOutcome x))
+    unfolding refuted statusOf
     no-room h = ap (λ (o : C.Outcome). statusOf (refuted o)) (sym (second-no-room x h))
 
     module _ (room : count + 2 ≤ length f) where
@@ -110,7 +111,7 @@ module _ (f : List ℕ) (count goal : ℕ) (t : List ℕ) (w : List Rec) (steps 
       module _ {o : Outcome} {f1 t1 : List ℕ} {w1 : List Rec} (c : Called (secondClaim x) w o f1 t1 w1) where
         refuted-so : refutedAs o ≡ statusOf (refuted (secondOutcome x))
         refuted-so =
-            ap refutedAs (c .outcome) ∙ same-verdict ((called (secondClaim x)) .outcome)
+            ap refutedAs (c .outcome) ∙ same-status ((called (secondClaim x)) .outcome)
             ∙ ap (λ (o : C.Outcome). statusOf (refuted o)) (sym (second-room x room))
 
         front-kept : take count f1 ≡ take count f

@@ -9,9 +9,9 @@ use Rattle.theory.specs.NameText.{padded}
 use Rattle.theory.specs.Call as C
 use Rattle.theory.specs.Call.{After, givenWords, refusal, givenBack, unchanged, called}
 use Rattle.theory.specs.Status as S
-use Rattle.theory.specs.Status.{settled, ranShort, rejected, statusNumbers, judged, Inquiry, firstClaim, secondOutcome, goalIsOpen}
+use Rattle.theory.specs.Status.{settled, ranShort, rejected, statusNumbers, judged, Inquiry, firstClaim}
 use Rattle.theory.specs.Status.{Asked, cleanedUp, asked}
-use Rattle.theory.proofs.StatusCalls.{asked-status, asked-refused, asked-cleaned}
+use Rattle.theory.proofs.StatusCalls.{status-by, asked-refused, asked-cleaned}
 use Rattle.theory.proofs.Called.{Told, t-proved, t-unprovable, t-shortage, t-refused, told}
 use Rattle.theory.proofs.CallClaims.{lengths-kept, given-kept, records-zero, records-kept}
 use Rattle.context.specs.Area.{Rec, zeroed}
@@ -21,8 +21,8 @@ use Rattle.call.specs.Outcomes.{outcomeOf}
 use Rattle.call.specs.Lent.{claimOf}
 use Rattle.call.specs.Whole.{Called}
 use Rattle.status.specs.declared.Status.{Status}
-use Rattle.status.specs.declared.Status.the-variants.{Solvable, Unsolvable, Unknown, Short, Refused}
-use Rattle.status.specs.Answers.{statusOf, numbersOf}
+use Rattle.status.specs.declared.Status.the-variants.{Solvable, Short, Refused}
+use Rattle.status.specs.Answers.{statusOf, numbersOf, refutedAs}
 use Rattle.status.specs.Whole.{inquiryOf, recordsLeft, failedStatus, Answered}
 use Rattle.status.proofs.Alike.{Stands, passes-again, failed-again}
 
@@ -39,13 +39,6 @@ numbers-of (rejected f i) = refl
 numbers-as : {t : Status} (s : S.Status) → t ≡ statusOf s → numbersOf t ≡ statusNumbers s
 numbers-as s e = ap numbersOf e ∙ numbers-of s
 
--- a shortage or a refusal, handed on
-handedOn : Outcome → Status
-handedOn (Proved r n u f t) = Unknown
-handedOn (Unprovable n u f t) = Unknown
-handedOn (Lacks k n) = Short k n
-handedOn (Rejects k i) = Refused k i
-
 module _ (f : List ℕ) (count goal : ℕ) (t : List ℕ) (w : List Rec) (steps : ℕ) where
   abbrev x : Inquiry
   x = inquiryOf f count goal t (length w) steps
@@ -61,10 +54,6 @@ module _ (f : List ℕ) (count goal : ℕ) (t : List ℕ) (w : List Rec) (steps 
     terms = et ∙ ap (λ (v : Asked). v .terms) a;
     records = ew ∙ ap (λ (v : Asked). recordsLeft v w) a;
   }
-
-  -- the status by the first search's outcome
-  status-by : {o : C.Outcome} → (called (firstClaim x)) .outcome ≡ o → (asked x) .status ≡ judged o (goalIsOpen x) (secondOutcome x)
-  status-by e = asked-status x ∙ ap (λ (o : C.Outcome). judged o (goalIsOpen x) (secondOutcome x)) e
 
   module _ {o : Outcome} {f1 t1 : List ℕ} {w1 : List Rec} (c : Called (claimOf f count [] [] goal t (length w) steps) w o f1 t1 w1) where
     -- what the first search leaves of the slices
@@ -100,7 +89,7 @@ module _ (f : List ℕ) (count goal : ℕ) (t : List ℕ) (w : List Rec) (steps 
         go : {p : C.Outcome} → Told (firstClaim x) p → (called (firstClaim x)) .outcome ≡ p → Proved r n u fs ts ≡ outcomeOf p →
             Answered x w Solvable (padded (length f1) (take count f1)) (replicate (length t1) 0) w1
         go (t-proved h) q e =
-            cleaned-up (h .passed) f1 t1 (sym (ap statusOf (status-by q))) (record { room = refl; given = refl; numbers = refl })
+            cleaned-up (h .passed) f1 t1 (sym (ap statusOf (status-by x q))) (record { room = refl; given = refl; numbers = refl })
             (zero-records (h .passed))
         go (t-unprovable h) q e = absurd (let z : _≡_ {A = ℕ} 0 1 = cc in omega arith)
         go (t-shortage h) q e = absurd (let z : _≡_ {A = ℕ} 0 1 = cc in omega arith)
@@ -108,7 +97,7 @@ module _ (f : List ℕ) (count goal : ℕ) (t : List ℕ) (w : List Rec) (steps 
 
     -- a shortage, with its steps
     pub ran-short : {k n : ℕ} → Lacks k n ≡ o → Answered x w (Short k n) f1 t1 w1
-    unfolding firstClaim outcomeOf judged statusOf handedOn givenBack givenWords
+    unfolding firstClaim outcomeOf judged statusOf refutedAs givenBack givenWords
     ran-short {k} {n} d = go (told (firstClaim x)) refl (d ∙ c .outcome)
       where
         go : {p : C.Outcome} → Told (firstClaim x) p → (called (firstClaim x)) .outcome ≡ p → Lacks k n ≡ outcomeOf p →
@@ -116,14 +105,14 @@ module _ (f : List ℕ) (count goal : ℕ) (t : List ℕ) (w : List Rec) (steps 
         go (t-proved h) q e = absurd (let z : _≡_ {A = ℕ} 0 1 = cc in omega arith)
         go (t-unprovable h) q e = absurd (let z : _≡_ {A = ℕ} 0 1 = cc in omega arith)
         go (t-shortage h) q e =
-            cleaned (h .passed) (ap handedOn e ∙ sym (ap statusOf (status-by q)))
+            cleaned (h .passed) (ap refutedAs e ∙ sym (ap statusOf (status-by x q)))
             (c .words ∙ ap (λ (v : After). v .words) (h .after)) (c .terms ∙ ap (λ (v : After). v .terms) (h .after))
             (zero-records (h .passed))
         go (t-refused h) q e = absurd (let z : _≡_ {A = ℕ} 0 1 = cc in omega arith)
 
     -- a refusal, with its place; nothing changes
     pub was-refused : {k i : ℕ} → Rejects k i ≡ o → Answered x w (Refused k i) f1 t1 w1
-    unfolding firstClaim outcomeOf statusOf handedOn unchanged recordsLeft
+    unfolding firstClaim outcomeOf statusOf refutedAs unchanged recordsLeft
     was-refused {k} {i} d = go (told (firstClaim x)) (d ∙ c .outcome)
       where
         go : {p : C.Outcome} → Told (firstClaim x) p → Rejects k i ≡ outcomeOf p → Answered x w (Refused k i) f1 t1 w1
@@ -131,7 +120,7 @@ module _ (f : List ℕ) (count goal : ℕ) (t : List ℕ) (w : List Rec) (steps 
         go (t-unprovable h) e = absurd (let z : _≡_ {A = ℕ} 0 1 = cc in omega arith)
         go (t-shortage h) e = absurd (let z : _≡_ {A = ℕ} 0 1 = cc in omega arith)
         go (t-refused h) e = let a = sym (asked-refused x (h .is)) in
-            let is = ap handedOn e ∙ ap (λ (v : Asked). statusOf (v .status)) a in record {
+            let is = ap refutedAs e ∙ ap (λ (v : Asked). statusOf (v .status)) a in record {
               status = is;
               numbers = numbers-as ((asked x) .status) is;
               words = c .words ∙ ap (λ (v : After). v .words) (h .after) ∙ ap (λ (v : Asked). v .words) a;
@@ -149,7 +138,7 @@ module _ (f : List ℕ) (count goal : ℕ) (t : List ℕ) (w : List Rec) (steps 
           go : {p : C.Outcome} → Told (firstClaim x) p → (called (firstClaim x)) .outcome ≡ p → Unprovable n u fs ts ≡ outcomeOf p →
               (refusal (firstClaim x) ≡ none) × ((asked x) .status ≡ failedStatus x)
           go (t-proved h) q e = absurd (let z : _≡_ {A = ℕ} 0 1 = cc in omega arith)
-          go (t-unprovable h) q e = (h .passed, status-by q)
+          go (t-unprovable h) q e = (h .passed, status-by x q)
           go (t-shortage h) q e = absurd (let z : _≡_ {A = ℕ} 0 1 = cc in omega arith)
           go (t-refused h) q e = absurd (let z : _≡_ {A = ℕ} 0 1 = cc in omega arith)
 

@@ -6,7 +6,6 @@ use mathlib.Core.Bool.{false}
 use mathlib.Core.Option.{none, some}
 use mathlib.Core.Logic.{_≢_, _⊎_, _↔_}
 use mathlib.Core.List.{List, map}
-use lib.Dec.{T}
 use lib.ListN.{length, take, replicate}
 use Rattle.theory.specs.Form.{form, shape, badWord}
 use Rattle.theory.specs.Term.{Term, term, Derives, AllNamesHave}
@@ -24,10 +23,10 @@ use Rattle.theory.specs.Call.{Claim, givenWords, givenBook, refusal, sea
 use Rattle.theory.specs.Call.{numbers, After, recordsAfter, givenBack, unchanged, answered, called}
 use Rattle.theory.specs.Writer.{termDepth, Draft, draftAfter, writerRefusal, drafted, notWritten, written}
 use Rattle.theory.specs.Status.{Unknown, settled, ranShort, rejected, statusNumbers, Inquiry, firstClaim, secondClaim, secondOutcome}
-use Rattle.theory.specs.Status.{goalIsOpen, cleanedUp, asked}
+use Rattle.theory.specs.Status.{cleanedUp, asked}
 use Rattle.theory.specs.File.{File, decoded, claimOf, printed}
 use Rattle.theory.specs.Places.{LowestWord, FirstOutside, FirstFaulty, LowestNode}
-use Rattle.theory.specs.Owed.{Faulty, Bounds, ZeroAbove, Grown, FitIn, Lent, Decided, Unproved, Says, Passes}
+use Rattle.theory.specs.Owed.{Faulty, Bounds, ZeroAbove, Grown, FitIn, Lent, Decided, Unproved, SearchesAgain, Says, Passes}
 use Rattle.theory.proofs.Written.{one-log-only}
 use Rattle.theory.proofs.Passing.{passes}
 use Rattle.theory.proofs.Called
@@ -283,14 +282,12 @@ module _ (x : Inquiry) where
   status-says = StatusCalls.status-says x
 
   -- "Unknown means that both searches ended without a proof" (of an open goal, since only then a second search is made)
-  pub unknown-exactly : ((asked x) .status ≡ settled Unknown) ↔
-      (Unproved ((called (firstClaim x)) .outcome) × T (goalIsOpen x) × Unproved (secondOutcome x))
+  pub unknown-exactly : ((asked x) .status ≡ settled Unknown) ↔ (SearchesAgain x × Unproved (secondOutcome x))
   unknown-exactly = StatusCalls.unknown-exactly x
 
   -- "a shortage in either search is now returned by its number with that search's steps", and only then
   pub short-exactly : (l : Lack) (n : ℕ) → ((asked x) .status ≡ ranShort l n) ↔
-      (((called (firstClaim x)) .outcome ≡ shortage l n) ⊎
-      (Unproved ((called (firstClaim x)) .outcome) × T (goalIsOpen x) × (secondOutcome x ≡ shortage l n)))
+      (((called (firstClaim x)) .outcome ≡ shortage l n) ⊎ (SearchesAgain x × (secondOutcome x ≡ shortage l n)))
   short-exactly = StatusCalls.short-exactly x
 
   -- "for 6, the limit", of either search
@@ -306,8 +303,7 @@ module _ (x : Inquiry) where
 
   -- the numbers of a status, by the definition that gives them: "a verdict comes with no other number"; a shortage comes with those of its
   -- own search, a refusal with the first's
-  pub verdict-numbers : Decided ((called (firstClaim x)) .outcome) →
-      (Unproved ((called (firstClaim x)) .outcome) → T (goalIsOpen x) → Decided (secondOutcome x)) →
+  pub verdict-numbers : Decided ((called (firstClaim x)) .outcome) → (SearchesAgain x → Decided (secondOutcome x)) →
       statusNumbers ((asked x) .status) ≡ record { number = 0; place = 0; root = 0; steps = 0; indices = 0; formulas = 0; terms = 0 }
   verdict-numbers = StatusCalls.verdict-numbers x
 
@@ -315,7 +311,7 @@ module _ (x : Inquiry) where
       statusNumbers ((asked x) .status) ≡ numbers ((called (firstClaim x)) .outcome)
   status-numbers = StatusCalls.status-numbers x
 
-  pub second-numbers : Unproved ((called (firstClaim x)) .outcome) → T (goalIsOpen x) → ¬ Decided (secondOutcome x) →
+  pub second-numbers : SearchesAgain x → ¬ Decided (secondOutcome x) →
       statusNumbers ((asked x) .status) ≡ numbers (secondOutcome x)
   second-numbers = StatusCalls.second-numbers x
 

@@ -21,7 +21,7 @@ use Rattle.theory.specs.Call.{Claim, rightSizes, givenWords, givenBook, 
 use Rattle.theory.specs.Call.{After, numbers, givenBack, unchanged, called}
 use Rattle.theory.specs.Status.{Solvable, Unsolvable, Unknown, Status, settled, ranShort, rejected, statusNumbers, refuted, judged}
 use Rattle.theory.specs.Status.{Inquiry, firstClaim, secondClaim, secondOutcome, goalIsOpen, Asked, cleanedUp, leftBy, asked}
-use Rattle.theory.specs.Owed.{Decided, isProved, isUnprovable, Unproved, noProof, Underivable, asksFor, Says, Passes}
+use Rattle.theory.specs.Owed.{Decided, isProved, isUnprovable, Unproved, noProof, SearchesAgain, Underivable, asksFor, Says, Passes}
 use Rattle.theory.proofs.Tests.{and-T}
 use Rattle.theory.proofs.Words.{shape-word, words-pass, passes-append}
 use Rattle.theory.proofs.Forms.{snoc-length, ext-by, At, at-ext, at-form, at-new, good-more, imp-new}
@@ -186,6 +186,11 @@ asked-status x = go (judged ((called (firstClaim x)) .outcome) (goalIsOpen x) (s
     go (ranShort l n) = refl
     go (rejected f i) = refl
 
+-- by the first search's outcome
+pub status-by : (x : Inquiry) {o : Outcome} → (called (firstClaim x)) .outcome ≡ o →
+    (asked x) .status ≡ judged o (goalIsOpen x) (secondOutcome x)
+status-by x e = asked-status x ∙ ap (λ (o : Outcome). judged o (goalIsOpen x) (secondOutcome x)) e
+
 -- how a status comes about: by the first search, or, where that ended without a proof on an open goal, by the second
 data Reached (x : Inquiry) : Status → Type 0 where
   proved-first : {r n u f t : ℕ} → Proves (firstClaim x) r n u f t → Reached x (settled Solvable)
@@ -219,8 +224,8 @@ reached x = subst (Reached x) (sym (asked-status x)) (first (told (firstClaim x)
 
     verdict : {n u f t : ℕ} → Fails (firstClaim x) n u f t → (b : Bool) → goalIsOpen x ≡ b →
         Reached x (elim b [ false ↦ settled Unsolvable | true ↦ refuted (secondOutcome x) ])
-    verdict h true p = second h (subst T (sym p) tt)
-    verdict h false p = closed-goal h p
+    verdict h true is = second h (subst T (sym is) tt)
+    verdict h false is = closed-goal h is
 
     first : {o : Outcome} → Told (firstClaim x) o → Reached x (judged o (goalIsOpen x) (secondOutcome x))
     first (t-proved h) = proved-first h
@@ -246,38 +251,35 @@ module _ (x : Inquiry) where
       (λ few q. let z : _≡_ {A = ℕ} 0 1 = cc in omega arith)
 
   -- Unknown exactly if both searches ended without a proof, the goal being open
-  pub unknown-exactly : ((asked x) .status ≡ settled Unknown) ↔
-      (Unproved ((called (firstClaim x)) .outcome) × T (goalIsOpen x) × Unproved (secondOutcome x))
+  pub unknown-exactly : ((asked x) .status ≡ settled Unknown) ↔ (SearchesAgain x × Unproved (secondOutcome x))
   unknown-exactly = (
     λ e. from (subst (Reached x) e (reached x)),
-    λ h. asked-status x ∙ judged-unknown (goalIsOpen x) (h .0) (h .1) (h .2),
+    λ h. asked-status x ∙ judged-unknown (goalIsOpen x) (h .0 .0) (h .0 .1) (h .1),
   )
     where
-      from : Reached x (settled Unknown) →
-          Unproved ((called (firstClaim x)) .outcome) × T (goalIsOpen x) × Unproved (secondOutcome x)
+      from : Reached x (settled Unknown) → SearchesAgain x × Unproved (secondOutcome x)
       from (failed-second h isOpen room k) =
-          (failed-outcome (firstClaim x) h, isOpen, subst Unproved (sym (second-room x room)) (failed-outcome (secondClaim x) k))
+          ((failed-outcome (firstClaim x) h, isOpen), subst Unproved (sym (second-room x room)) (failed-outcome (secondClaim x) k))
 
   -- a shortage exactly if the first search ran short, or ended without a proof on an open goal and the second ran short
   pub short-exactly : (l : Lack) (n : ℕ) → ((asked x) .status ≡ ranShort l n) ↔
-      (((called (firstClaim x)) .outcome ≡ shortage l n) ⊎
-      (Unproved ((called (firstClaim x)) .outcome) × T (goalIsOpen x) × (secondOutcome x ≡ shortage l n)))
+      (((called (firstClaim x)) .outcome ≡ shortage l n) ⊎ (SearchesAgain x × (secondOutcome x ≡ shortage l n)))
   unfolding judged
   short-exactly l n = (λ e. from (subst (Reached x) e (reached x)), to)
     where
-      from : {k : Lack} {m : ℕ} → Reached x (ranShort k m) → ((called (firstClaim x)) .outcome ≡ shortage k m) ⊎
-          (Unproved ((called (firstClaim x)) .outcome) × T (goalIsOpen x) × (secondOutcome x ≡ shortage k m))
+      from : {k : Lack} {m : ℕ} → Reached x (ranShort k m) →
+          ((called (firstClaim x)) .outcome ≡ shortage k m) ⊎ (SearchesAgain x × (secondOutcome x ≡ shortage k m))
       from (short-first h) = inl (short-outcome (firstClaim x) h)
       from (short-second h isOpen room k) =
-          inr (failed-outcome (firstClaim x) h, isOpen, second-room x room ∙ short-outcome (secondClaim x) k)
-      from (no-room h isOpen few) = inr (failed-outcome (firstClaim x) h, isOpen, second-no-room x few)
+          inr ((failed-outcome (firstClaim x) h, isOpen), second-room x room ∙ short-outcome (secondClaim x) k)
+      from (no-room h isOpen few) = inr ((failed-outcome (firstClaim x) h, isOpen), second-no-room x few)
 
-      to : ((called (firstClaim x)) .outcome ≡ shortage l n) ⊎
-          (Unproved ((called (firstClaim x)) .outcome) × T (goalIsOpen x) × (secondOutcome x ≡ shortage l n)) →
+      to : ((called (firstClaim x)) .outcome ≡ shortage l n) ⊎ (SearchesAgain x × (secondOutcome x ≡ shortage l n)) →
           (asked x) .status ≡ ranShort l n
-      to (inl e) = asked-status x ∙ ap (λ (o : Outcome). judged o (goalIsOpen x) (secondOutcome x)) e
+      to (inl e) = status-by x e
       to (inr h) =
-          asked-status x ∙ ap (judged ((called (firstClaim x)) .outcome) (goalIsOpen x)) (h .2) ∙ judged-short (goalIsOpen x) (h .0) (h .1) l n
+          asked-status x ∙ ap (judged ((called (firstClaim x)) .outcome) (goalIsOpen x)) (h .1)
+          ∙ judged-short (goalIsOpen x) (h .0 .0) (h .0 .1) l n
 
   -- "for 6, the limit", of either search
   pub short-steps : {n : ℕ} → (asked x) .status ≡ ranShort Steps n → n ≡ x .stepLimit
@@ -301,10 +303,10 @@ module _ (x : Inquiry) where
       go (refused f i) d = refl
 
   -- .. those of the second where it is asked for and is neither ..
-  pub second-numbers : Unproved ((called (firstClaim x)) .outcome) → T (goalIsOpen x) → ¬ Decided (secondOutcome x) →
+  pub second-numbers : SearchesAgain x → ¬ Decided (secondOutcome x) →
       statusNumbers ((asked x) .status) ≡ numbers (secondOutcome x)
   unfolding statusNumbers judged refuted
-  second-numbers u isOpen d = ap statusNumbers (asked-status x) ∙ go (goalIsOpen x) u isOpen (secondOutcome x) d
+  second-numbers again d = ap statusNumbers (asked-status x) ∙ go (goalIsOpen x) (again .0) (again .1) (secondOutcome x) d
     where
       go : {o : Outcome} (b : Bool) → Unproved o → T b → (second : Outcome) → ¬ Decided second →
           statusNumbers (judged o b second) ≡ numbers second
@@ -314,8 +316,7 @@ module _ (x : Inquiry) where
       go true noProof isOpen (refused f i) d = refl
 
   -- .. and all 0 where each search that was made is Proved or Unprovable
-  pub verdict-numbers : Decided ((called (firstClaim x)) .outcome) →
-      (Unproved ((called (firstClaim x)) .outcome) → T (goalIsOpen x) → Decided (secondOutcome x)) →
+  pub verdict-numbers : Decided ((called (firstClaim x)) .outcome) → (SearchesAgain x → Decided (secondOutcome x)) →
       statusNumbers ((asked x) .status) ≡ record { number = 0; place = 0; root = 0; steps = 0; indices = 0; formulas = 0; terms = 0 }
   unfolding statusNumbers judged refuted
   verdict-numbers d later = ap statusNumbers (asked-status x) ∙ go (goalIsOpen x) d later
@@ -325,12 +326,12 @@ module _ (x : Inquiry) where
       second isProved = refl
       second isUnprovable = refl
 
-      go : {o : Outcome} (b : Bool) → Decided o → (Unproved o → T b → Decided (secondOutcome x)) →
+      go : {o : Outcome} (b : Bool) → Decided o → (Unproved o × T b → Decided (secondOutcome x)) →
           statusNumbers (judged o b (secondOutcome x)) ≡
           record { number = 0; place = 0; root = 0; steps = 0; indices = 0; formulas = 0; terms = 0 }
       go b isProved later = refl
       go false isUnprovable later = refl
-      go true isUnprovable later = second (later noProof tt)
+      go true isUnprovable later = second (later (noProof, tt))
 
   first-derives : {r n u f t : ℕ} → Proves (firstClaim x) r n u f t → (s : Term) × Derives [] s (asksFor x)
   unfolding firstClaim

@@ -98,6 +98,10 @@ pub data Decided : Outcome → Type 0 where
 pub data Unproved : Outcome → Type 0 where
   noProof : {n u f t : ℕ} → Unproved (unprovable n u f t)
 
+-- a second search of the status is made: the first ended without a proof, and the goal is open
+abbrev pub SearchesAgain : Inquiry → Type 0
+SearchesAgain x = Unproved ((called (firstClaim x)) .outcome) × T (goalIsOpen x)
+
 -- no term of any size derives the formula from no assumptions
 abbrev pub Underivable : Form → Type 0
 Underivable A = (s : Term) → Derives [] s A → ⊥

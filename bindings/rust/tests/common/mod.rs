@@ -138,6 +138,7 @@ impl Random {
             1 | 2 => book.falsity(),
             3 => book.for_all(0),
             4 => book.exists(0),
+            6 => book.atom(Book::FIRST_FREE_SYMBOL),
             5 if self.one_in(40) => book.atom(Book::LAST_SYMBOL + 1),
             symbol => book.atom(symbol as u16 % 4),
         }

@@ -3,6 +3,7 @@ mod Tie
 use borrow.Author.Needs.{needs}
 use mathlib.Core.Path.{refl, _∙_}
 use denote.Ref.{now}
+use Rattle.theory.specs.Refusal.{lackNumber}
 use Rattle.status.proofs.Second.{few-words, no-room, appended, second-answers}
 use Rattle.status.proofs.search_negation.Statement.{statement}
 use Rattle.status.proofs.search_negation.Proof.Tie as tie
@@ -15,6 +16,7 @@ add-if1 c =
     search (needs, few)
 
 returns : tie.Need-returns
+unfolding lackNumber
 returns c =
     let s = c .before .before .before in
     let a = s .args in (
