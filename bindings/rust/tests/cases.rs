@@ -75,18 +75,26 @@ fn unprovable() {
     }
 }
 
+/// The default limits, but so many steps.
+fn steps(steps: usize) -> Limits {
+    Limits {
+        steps,
+        ..Limits::default()
+    }
+}
+
+/// The default limits, but so many nodes.
+fn terms(terms: usize) -> Limits {
+    Limits {
+        terms,
+        ..Limits::default()
+    }
+}
+
 #[test]
 fn both_sides_of_a_limit() {
     let identity = Case::new(&[], "(> p0 p0)");
     let either = Case::new(EITHER, "(| p1 p0)");
-    let steps = |steps| Limits {
-        steps,
-        ..Limits::default()
-    };
-    let terms = |terms| Limits {
-        terms,
-        ..Limits::default()
-    };
     let said = |case: &Case, limits| Prover::with_limits(limits).prove(&case.claim());
     assert_eq!(said(&identity, steps(5)), identity.claim().prove());
     assert_eq!(said(&identity, steps(4)), Err(Refusal::Steps { steps: 4 }));
@@ -118,21 +126,15 @@ fn status() {
     assert_eq!(prover.status(&book, free), Ok(Status::Unknown));
 }
 
-/// The status of a goal under limits that differ from the default.
-fn status_under(goal: &str, changed: impl Fn(&Case) -> Limits) -> Result<Status, Refusal> {
+fn status_under(limits: Limits, goal: &str) -> Result<Status, Refusal> {
     let case = Case::new(&[], goal);
-    Prover::with_limits(changed(&case)).status(&case.book, case.goal)
+    Prover::with_limits(limits).status(&case.book, case.goal)
 }
 
 /// A shortage of either search is told with its own steps: the first takes 4 of both ways and 3 of p8192, the second 8 and 5.
 #[test]
 fn status_at_a_step_limit() {
-    let said = |goal, steps| {
-        status_under(goal, |_| Limits {
-            steps,
-            ..Limits::default()
-        })
-    };
+    let said = |goal, limit| status_under(steps(limit), goal);
     for steps in [0, 3, 4, 7] {
         assert_eq!(said(BOTH_WAYS, steps), Err(Refusal::Steps { steps }));
     }
@@ -147,10 +149,12 @@ fn status_at_a_step_limit() {
 #[test]
 fn status_at_a_word_limit() {
     let said = |goal, more| {
-        status_under(goal, |case| Limits {
-            formulas: case.book.words().len() + more,
+        let formulas = Case::new(&[], goal).book.words().len() + more;
+        let limits = Limits {
+            formulas,
             ..Limits::default()
-        })
+        };
+        status_under(limits, goal)
     };
     for (goal, status) in [(BOTH_WAYS, Status::Unsolvable), ("p8192", Status::Unknown)] {
         for more in [0, 1] {
@@ -164,14 +168,9 @@ fn status_at_a_word_limit() {
 /// Of these goals only the second search makes nodes.
 #[test]
 fn status_at_a_node_limit() {
-    let said = |goal, terms| {
-        status_under(goal, |_| Limits {
-            terms,
-            ..Limits::default()
-        })
-    };
-    for (terms, steps) in [(0, 1), (2, 3), (3, 7), (5, 8)] {
-        assert_eq!(said(BOTH_WAYS, terms), Err(Refusal::Terms { steps }));
+    let said = |goal, nodes| status_under(terms(nodes), goal);
+    for (nodes, steps) in [(0, 1), (2, 3), (3, 7), (5, 8)] {
+        assert_eq!(said(BOTH_WAYS, nodes), Err(Refusal::Terms { steps }));
     }
     assert_eq!(said(BOTH_WAYS, 6), Ok(Status::Unsolvable));
     assert_eq!(said("p8192", 0), Err(Refusal::Terms { steps: 1 }));
