@@ -355,8 +355,9 @@ module _ (x : Inquiry) where
       says (proved-second h isOpen room k) = (first-none h, λ t. second-derives x (h .passed) room k)
       says (failed-second h isOpen room k) = (first-none h, second-none x (h .passed) room k, isOpen)
       says (short-first h) = inl (short-outcome (firstClaim x) h)
-      says (short-second h isOpen room k) = inr (first-none h, isOpen, second-room x room ∙ short-outcome (secondClaim x) k)
-      says (no-room h isOpen few) = inr (first-none h, isOpen, second-no-room x few)
+      says (short-second h isOpen room k) =
+          inr ((failed-outcome (firstClaim x) h, isOpen), first-none h, second-room x room ∙ short-outcome (secondClaim x) k)
+      says (no-room h isOpen few) = inr ((failed-outcome (firstClaim x) h, isOpen), first-none h, second-no-room x few)
       says (refused-first h) = ap (λ (a : After). a .outcome) (h .after)
 
   -- an input that is refused is left as it was

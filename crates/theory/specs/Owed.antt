@@ -117,7 +117,7 @@ Says x (settled Unsolvable) =
     Underivable (asksFor x) × (T (goalIsOpen x) → (s : Term) × Derives [] s (imp (asksFor x) bot))
 Says x (settled Unknown) = Underivable (asksFor x) × Underivable (imp (asksFor x) bot) × T (goalIsOpen x)
 Says x (ranShort l n) =
-    ((called (firstClaim x)) .outcome ≡ shortage l n) ⊎ (Underivable (asksFor x) × T (goalIsOpen x) × (secondOutcome x ≡ shortage l n))
+    ((called (firstClaim x)) .outcome ≡ shortage l n) ⊎ (SearchesAgain x × Underivable (asksFor x) × (secondOutcome x ≡ shortage l n))
 Says x (rejected f i) = (called (firstClaim x)) .outcome ≡ refused f i
 
 -- the counts of a file that decodes
