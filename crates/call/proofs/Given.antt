@@ -1,36 +1,17 @@
 -- The given words: those that pass are laid out, and they read as theory's book and back. Assumes nothing.
 use Prim.Native.Nat.{ℕ, zero, suc, _≤_, _<_}
 use mathlib.Core.Path.{_≡_, refl, sym, ap, ap₂, _∙_, subst}
-use mathlib.Core.Bool.{Bool, true, false}
-use mathlib.Core.Option.{Option, none, some}
-use mathlib.Core.List.{List, [], _∷_, _++_, map, append-nil, append-assoc, map-append}
+use mathlib.Core.Option.{none}
+use mathlib.Core.List.{List, [], _∷_, _++_, map, map-append}
 use native.Mathlib.Omega.{arith}
 use lib.Dec.{T}
 use lib.ListN.{length, getD, take}
 use lib.Seq.{take-suc, getD-take, take-take, length-take-le}
-use Rattle.theory.specs.Form.{Shape, shape, word, goodWord, badFrom, badWord}
-use Rattle.theory.proofs.Tests.{some-none}
-use Rattle.theory.proofs.Words.{word-back}
+use Rattle.theory.specs.Form.{Shape, shape, word, goodWord, badWord}
+use Rattle.theory.proofs.Words.{word-back, each-passes}
 use Rattle.search_laws.specs.Reading.{book, shapeAt}
 use Rattle.search_laws.specs.Tables.{upto}
 use Rattle.search_laws.specs.Keeping.{Laid}
-
--- of words that pass, each passes after those before it
-each-passes : (before ws : List ℕ) → badFrom before ws ≡ none → (i : ℕ) → i < length ws → T (goodWord (before ++ take i ws) (getD ws i 0))
-unfolding badFrom
-each-passes before [] e i h = absurd (omega arith)
-each-passes before (v ∷ ws) e i h = go (goodWord before v) refl e i h (each-passes (before ++ (v ∷ [])) ws)
-  where
-    go : (b : Bool) → goodWord before v ≡ b →
-        _≡_ {A = Option ℕ} (elim b [ true ↦ badFrom (before ++ (v ∷ [])) ws | false ↦ some (length before) ]) none →
-        (i : ℕ) → i < length (v ∷ ws) →
-        (badFrom (before ++ (v ∷ [])) ws ≡ none → (j : ℕ) → j < length ws →
-        T (goodWord ((before ++ (v ∷ [])) ++ take j ws) (getD ws j 0))) →
-        T (goodWord (before ++ take i (v ∷ ws)) (getD (v ∷ ws) i 0))
-    go false p e i h ih = absurd (some-none e)
-    go true p e zero h ih = subst (λ (b : List ℕ). T (goodWord b v)) (sym (append-nil before)) (subst T (sym p) tt)
-    go true p e (suc i) h ih = subst (λ (b : List ℕ). T (goodWord b (getD ws i 0))) (append-assoc before (v ∷ []) (take i ws))
-        (ih e i (omega arith))
 
 module _ (f : List ℕ) where
   -- words that pass are laid out

@@ -90,7 +90,7 @@ module _ (x : Inquiry) (e : refusal (firstClaim x) ≡ none) (room : x .count + 
   second-good =
       passes-append [] given added (p .words)
       (words-pass given (isBot ∷ isImp (x .goal) (x .count) ∷ [])
-      (tt, ((omega (arith, goal-below, small), omega (arith, small)), tt))
+      (tt, ((omega (arith, goal-below, small), omega (arith, small)), tt)) (tt, (tt, tt))
       (tt, ((omega (arith, goal-below, given-count), omega (arith, given-count)), tt)))
 
   second-sizes : T (rightSizes (secondClaim x))

@@ -8,11 +8,12 @@ use native.Mathlib.Omega.{arith}
 use lib.Dec.{T, ltb}
 use lib.ListN.{length, getD}
 use Rattle.theory.specs.Form.{Form, top, Shape, isTop, isBot, isLeaf, isAnd, isOr, isImp, Book, treeOf, grow, trees, form}
-use Rattle.theory.specs.Form.{kindOf, leftOf, rightOf, shapeOf, shape, goodFields, goodWord, badFrom, badWord}
+use Rattle.theory.specs.Form.{kindOf, leftOf, rightOf, shapeOf, shape, goodFields, laidOut, goodWord, badFrom, badWord}
 use Rattle.theory.specs.Term.{Piece, ident, pair, fst, snd, fn, app, inl, inr, case, abort, asc, unit, Node, Term, Unit′}
 use Rattle.theory.specs.Term.{termOf, growTerms, term, NamesHave, AllNamesHave}
 use Rattle.theory.specs.WellFormed.{LeafKind, atom, forAll, exists, WellFormed, WellNamed}
 use Rattle.theory.proofs.Tests.{and-right}
+use Rattle.theory.proofs.Words.{word-laid}
 
 -- a shape whose tree is well-formed if the trees before it are
 abbrev Known : Shape → Type 0
@@ -39,9 +40,13 @@ fields-known i (suc (suc (suc (suc (suc (suc zero)))))) l r h t = (forAll, h)
 fields-known i (suc (suc (suc (suc (suc (suc (suc zero))))))) l r h t = (exists, h)
 fields-known i (suc (suc (suc (suc (suc (suc (suc (suc k)))))))) l r h t = absurd t
 
-word-known : (before : List ℕ) (w : ℕ) → T (goodWord before w) → Known (shape w)
-unfolding goodWord shape
-word-known before w t = fields-known (length before) (kindOf w) (leftOf w) (rightOf w) (omega arith) (and-right (ltb w 4294967296) _ t)
+laid-known : (i w : ℕ) → T (laidOut i w) → Known (shape w)
+unfolding laidOut shape
+laid-known i w t = fields-known i (kindOf w) (leftOf w) (rightOf w) (omega arith) (and-right (ltb w 4294967296) _ t)
+
+-- a leaf word that is laid out has a leaf's kind
+pub laid-leaf : (i w : ℕ) {k s : ℕ} → T (laidOut i w) → shape w ≡ isLeaf k s → LeafKind k
+laid-leaf i w t e = (subst Known e (laid-known i w t)) .0
 
 words-known : (before ws : List ℕ) → badFrom before ws ≡ none → AllKnown (map shape ws)
 unfolding badFrom
@@ -51,7 +56,7 @@ words-known before (w ∷ ws) e = go (goodWord before w) refl e (words-known (be
     go : (b : Bool) → goodWord before w ≡ b →
         _≡_ {A = Option ℕ} (elim b [ true ↦ badFrom (before ++ (w ∷ [])) ws | false ↦ some (length before) ]) none →
         (badFrom (before ++ (w ∷ [])) ws ≡ none → AllKnown (map shape ws)) → AllKnown (map shape (w ∷ ws))
-    go true p e ih = (word-known before w (subst T (sym p) tt), ih e)
+    go true p e ih = (laid-known (length before) w (word-laid before w (subst T (sym p) tt)), ih e)
     go false p e ih = absurd (let z : _≡_ {A = ℕ} 0 1 = cc in omega arith)
 
 -- one tree more keeps what all trees of a list have, beyond its end too

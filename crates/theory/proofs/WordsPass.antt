@@ -12,7 +12,7 @@ use Rattle.theory.specs.Meter.{Bound, upTo, fits, Limits, State, found, 
 use Rattle.theory.specs.Search.{given, prove}
 use Rattle.theory.specs.Written.{AllIn}
 use Rattle.theory.proofs.Forms.{good-rest}
-use Rattle.theory.proofs.Words.{decodes, encodes, Packs, AllPack, words-pass, passes-append}
+use Rattle.theory.proofs.Words.{decodes, encodes, Packs, AllPack, Plain, AllPlain, words-pass, passes-append}
 use Rattle.theory.proofs.Alike.{Implies, implies, AllImply}
 use Rattle.theory.proofs.Room.{found-kept}
 use Rattle.theory.proofs.Main.{grown}
@@ -24,6 +24,14 @@ implications-pack n (v ∷ vs) i g h = (one v (i .0) (g .0), implications-pack (
   where
     one : (v : Shape) → Implies v → Below n v → Packs v
     one v implies b = (omega (arith, b .0), omega (arith, b .1))
+
+-- an implication is no leaf
+implications-plain : (vs : Book) → AllImply vs → AllPlain vs
+implications-plain [] i = tt
+implications-plain (v ∷ vs) i = (one v (i .0), implications-plain vs (i .1))
+  where
+    one : (v : Shape) → Implies v → Plain v
+    one v implies = tt
 
 -- implications after the shapes of words
 pub later-pack : (ws : List ℕ) (vs : Book) → AllImply vs → Good (map shape ws ++ vs) → length (map shape ws ++ vs) ≤ 16384 →
@@ -41,7 +49,7 @@ unfolding badWord
 appended-pass ws vs p i g h =
     let r = later-pack ws vs i g h in
     ap badWord (map-append word (map shape ws) vs ∙ ap (λ (xs : List ℕ). xs ++ map word vs) (encodes ws p))
-    ∙ passes-append [] ws (map word vs) p (words-pass ws vs (r .1) (r .0))
+    ∙ passes-append [] ws (map word vs) p (words-pass ws vs (r .1) (implications-plain vs i) (r .0))
 
 -- the words of what is found pass, where the given ones do and at most 16,384 are allowed
 pub found-words-pass : (L : Limits) (names : List (List ℕ)) (d : ℕ) (ws hs : List ℕ) (g : ℕ) → badWord ws ≡ none →

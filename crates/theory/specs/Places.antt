@@ -7,15 +7,29 @@ use mathlib.Core.Logic.{_≢_}
 use mathlib.Core.List.{List, []}
 use lib.Dec.{T}
 use lib.ListN.{length, getD, take}
-use Rattle.theory.specs.Form.{goodWord}
+use Rattle.theory.specs.Form.{isLeaf, shape, goodWord}
 use Rattle.theory.specs.NameText.{cutEntry, namesIn, lawfulAfter}
 use Rattle.theory.specs.Layout.{lawfulNode}
+use Rattle.theory.specs.WellFormed.{LeafKind}
 
--- 2: "lowest word that breaks the layout"
+-- 2: "lowest word that breaks the layout", or whose leaf symbol stands lower under another leaf kind
 pub record LowestWord (ws : List ℕ) (i : ℕ) : Type 0 where
   pub inside : i < length ws
   pub breaks : goodWord (take i ws) (getD ws i 0) ≡ false
   pub before : (j : ℕ) → j < i → T (goodWord (take j ws) (getD ws j 0))
+
+-- the leaf symbol of word i "stands at a lower index under another leaf kind"
+pub record Mixed (ws : List ℕ) (i : ℕ) : Type 0 where
+  pub lower : ℕ
+  pub symbol : ℕ
+  pub kind : ℕ
+  pub other : ℕ
+  pub below : lower < i
+  pub here : shape (getD ws i 0) ≡ isLeaf kind symbol
+  pub there : shape (getD ws lower 0) ≡ isLeaf other symbol
+  pub leaf : LeafKind kind
+  pub leaf-there : LeafKind other
+  pub differ : kind ≢ other
 
 -- 3: "the first index not below the count"
 pub record FirstOutside (count : ℕ) (hs : List ℕ) (i : ℕ) : Type 0 where
