@@ -1,14 +1,11 @@
 -- What the layout asks of a word's fields, by its kind. Assumes nothing.
 use Prim.Native.Nat.{ℕ, zero, suc, _≤_, _<_, _^_}
-use mathlib.Core.Path.{_≡_, refl, sym, ap, _∙_}
-use mathlib.Core.Logic.{_⊎_, inl, inr, ⊎-elim}
+use mathlib.Core.Path.{_≡_, refl}
 use mathlib.Core.Bool.{Bool, true, false, _&&_}
-use mathlib.Core.List.{List, [], _∷_}
 use native.Mathlib.Omega.{arith}
-use lib.ListN.{length, take, getD}
 use lib.Dec.{ltb, eqb}
 use borrow.Author.Tests.{ne-eqb, lt-ltb, le-ltb}
-use Rattle.theory.specs.Form.{kindOf, leftOf, rightOf, goodFields, goodWord}
+use Rattle.theory.specs.Form.{kindOf, leftOf, rightOf, goodFields, laidOut}
 use Rattle.formula.specs.Leaves.{leafKind}
 
 -- from 8 on there is no kind
@@ -38,25 +35,7 @@ by-bands i (suc (suc (suc (suc (suc (suc (suc (suc k)))))))) l r =
     let n = suc (suc (suc (suc (suc (suc (suc (suc k))))))) in
     rw (le-ltb n 2 (omega arith), no-leaf n (omega arith), le-ltb n 6 (omega arith))
 
--- an index is the number of words before it, or stands out of range
-index-or-true : (f : List ℕ) (i : ℕ) → (length (take i f) ≡ i) ⊎ (getD f i 0 ≡ 0)
-index-or-true f zero = inl refl
-index-or-true [] (suc i) = inr refl
-index-or-true (w ∷ f) (suc i) = ⊎-elim (λ e. inl (ap suc e)) inr (index-or-true f i)
-
-true-anywhere : (i j w : ℕ) → w ≡ 0 → goodFields i (kindOf w) (leftOf w) (rightOf w) ≡ goodFields j (kindOf w) (leftOf w) (rightOf w)
-unfolding goodFields
-true-anywhere i j w e = rw e
-
 -- the layout of a word of 32 bits is that of its fields
-fields-of : (before : List ℕ) (w : ℕ) → w < 2 ^ 32 → goodFields (length before) (kindOf w) (leftOf w) (rightOf w) ≡ goodWord before w
-unfolding goodWord
-fields-of before w h = rw (lt-ltb w 4294967296 h)
-
--- the index of a word is the number of words before it; out of range stands 0, which is True and good at every index
-pub fields-at : (f : List ℕ) (i w : ℕ) → w ≡ getD f i 0 → w < 2 ^ 32 →
-    goodFields i (kindOf w) (leftOf w) (rightOf w) ≡ goodWord (take i f) (getD f i 0)
-fields-at f i w e h =
-    ⊎-elim (λ n. ap (λ (j : ℕ). goodFields j (kindOf w) (leftOf w) (rightOf w)) (sym n))
-    (λ z. true-anywhere i (length (take i f)) w (e ∙ z)) (index-or-true f i)
-    ∙ fields-of (take i f) w h ∙ ap (goodWord (take i f)) e
+pub fields-of : (i w : ℕ) → w < 2 ^ 32 → goodFields i (kindOf w) (leftOf w) (rightOf w) ≡ laidOut i w
+unfolding laidOut
+fields-of i w h = rw (lt-ltb w 4294967296 h)

@@ -1,17 +1,18 @@
 -- "Leaves are equal when their words are": for words that pass the layout test, equal words are equal kinds and symbols. Assumes nothing.
 use Prim.Native.Nat.{ℕ, zero, suc}
 use mathlib.Core.Path.{_≡_, refl, sym, ap, _∙_, subst}
-use mathlib.Core.Bool.{Bool, true, false}
+use mathlib.Core.Bool.{Bool, true, false, _||_}
 use mathlib.Core.List.{List}
 use native.Mathlib.Omega.{arith}
 use lib.ListN.{length}
 use lib.Dec.{T, ltb, eqb, eqb→eq}
 use borrow.Author.Tests.{eqb-true, eqb-false, eq-eqb}
 use Rattle.theory.specs.Form.{Shape, isTop, isBot, isLeaf, isAnd, isOr, isImp, kindOf, leftOf, rightOf, shapeOf, shape, word}
-use Rattle.theory.specs.Form.{goodFields, goodWord}
+use Rattle.theory.specs.Form.{goodFields, laidOut, goodWord}
+use Rattle.theory.specs.WellFormed.{LeafKind, atom, forAll, exists}
 use Rattle.theory.specs.Search.{isLeaf?}
 use Rattle.theory.proofs.Tests.{and-left, and-right}
-use Rattle.theory.proofs.Words.{word-back}
+use Rattle.theory.proofs.Words.{word-laid, word-back}
 use Rattle.formula.specs.Leaves.{leafKind, equalLeaves}
 
 -- the kinds one by one
@@ -27,11 +28,34 @@ leaf-of-fields i (suc (suc (suc (suc (suc (suc zero)))))) l r a y t e = refl
 leaf-of-fields i (suc (suc (suc (suc (suc (suc (suc zero))))))) l r a y t e = refl
 leaf-of-fields i (suc (suc (suc (suc (suc (suc (suc (suc k)))))))) l r a y t e = absurd t
 
--- a good word whose shape is a leaf is of a leaf's kind
+-- the test of a kind, and the shape of a word of such a kind
+pub is-leaf-kind : (k : ℕ) → leafKind k ≡ true → LeafKind k
+unfolding leafKind
+is-leaf-kind k e = go (eqb k 2) refl (eqb k 6) refl (eqb k 7) refl e
+  where
+    go : (a : Bool) → eqb k 2 ≡ a → (b : Bool) → eqb k 6 ≡ b → (c : Bool) → eqb k 7 ≡ c → a || (b || c) ≡ true → LeafKind k
+    go true p b q c s e = subst LeafKind (sym (eqb-true k 2 p)) atom
+    go false p true q c s e = subst LeafKind (sym (eqb-true k 6 q)) forAll
+    go false p false q true s e = subst LeafKind (sym (eqb-true k 7 s)) exists
+    go false p false q false s e = absurd (subst T (sym e) tt)
+
+leaf-shape : {k : ℕ} → LeafKind k → (l r : ℕ) → shapeOf k l r ≡ isLeaf k l
+unfolding shapeOf
+leaf-shape atom l r = refl
+leaf-shape forAll l r = refl
+leaf-shape exists l r = refl
+
+pub leaf-kinds : (k : ℕ) → leafKind k ≡ true → (l r : ℕ) → shapeOf k l r ≡ isLeaf k l
+leaf-kinds k e l r = leaf-shape (is-leaf-kind k e) l r
+
+-- a word that is laid out and whose shape is a leaf is of a leaf's kind
+pub leaf-of-laid : (i w a y : ℕ) → T (laidOut i w) → shape w ≡ isLeaf a y → leafKind (kindOf w) ≡ true
+unfolding laidOut shape
+leaf-of-laid i w a y t e = leaf-of-fields i (kindOf w) (leftOf w) (rightOf w) a y (and-right (ltb w 4294967296) _ t) e
+
+-- and so is a good word
 pub leaf-of-word : (before : List ℕ) (w a y : ℕ) → T (goodWord before w) → shape w ≡ isLeaf a y → leafKind (kindOf w) ≡ true
-unfolding goodWord shape
-leaf-of-word before w a y t e =
-    leaf-of-fields (length before) (kindOf w) (leftOf w) (rightOf w) a y (and-right (ltb w 4294967296) _ t) e
+leaf-of-word before w a y t e = leaf-of-laid (length before) w a y (word-laid before w t) e
 
 -- what the search's test for a leaf means
 is-that-leaf : (k y : ℕ) (s : Shape) → T (isLeaf? k y s) → s ≡ isLeaf k y

@@ -2,7 +2,7 @@
 ghost use mathlib.Core.Path.{_≡_};
 ghost use Prim.Native.Nat.{_%_};
 ghost use lib.ListN.{length, getD, set, take};
-ghost use Rattle.theory.specs.Form.{kindOf, leftOf, rightOf, pack, goodFields, goodWord};
+ghost use Rattle.theory.specs.Form.{kindOf, leftOf, rightOf, pack, goodFields, laidOut};
 ghost use Rattle.theory.specs.NameText.{padded};
 ghost use Rattle.formula.specs.Leaves.{leafKind, equalLeaves};
 
@@ -144,10 +144,9 @@ fn good_fields(i: usize, kind: usize, left: usize, right: usize) -> bool
     false
 }
 
-// The layout of the word at i after the words before it; True, which is what a read out of range gives, is good anywhere.
-pub fn good_word(words: &[u32], i: usize) -> bool
-    ensures { λ r. ⌜ r ≡ goodWord (take i (now (words .entry))) (getD (now (words .entry)) i 0) ⌝ }
+// The layout of a word at index i.
+pub fn laid_out(packed: u32, i: usize) -> bool
+    ensures { λ r. ⌜ r ≡ laidOut i packed ⌝ }
 {
-    let packed = word(words, i);
     good_fields(i, kind_of(packed), left_of(packed), right_of(packed))
 }

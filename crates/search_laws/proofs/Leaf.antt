@@ -1,21 +1,21 @@
 -- Leaves by words: the place where the code finds a leaf is where the search as written finds it, and so a record fires. Assumes nothing.
 use Prim.Native.Nat.{ℕ, zero, suc, _+_, _*_, _≤_, _<_}
 use mathlib.Core.Path.{_≡_, refl, sym, ap, _∙_, subst}
-use mathlib.Core.Bool.{Bool, true, false, _&&_, _||_}
+use mathlib.Core.Bool.{Bool, true, false, _&&_}
 use mathlib.Core.Option.{Option, none, some}
 use mathlib.Core.List.{List, _∷_}
 use native.Mathlib.Omega.{arith}
 use native.Mathlib.Nat.{zero-add}
 use lib.ListN.{getD, take}
 use lib.Dec.{T, eqb, ltb}
-use borrow.Author.Tests.{eqb-true, lt-ltb, le-ltb}
+use borrow.Author.Tests.{lt-ltb, le-ltb}
 use Rattle.theory.specs.Form.{Book, Shape, isTop, isBot, isLeaf, isAnd, isOr, isImp, shape, shapeOf, look, kindOf, leftOf, rightOf}
 use Rattle.theory.specs.Form.{goodWord}
 use Rattle.theory.specs.Meter.{Entry}
 use Rattle.theory.specs.Search.{isLeaf?, firstLeaf}
 use Rattle.theory.proofs.Falling.{leaf-over, leaf-here}
 use Rattle.formula.specs.Leaves.{leafKind, equalLeaves}
-use Rattle.formula.proofs.LeafWords.{equal-leaves-are}
+use Rattle.formula.proofs.LeafWords.{leaf-kinds, equal-leaves-are}
 use Rattle.context.specs.Moves.{stretch}
 use Rattle.context.specs.Area.{Rec, formulaAt, termAt}
 use Rattle.search_laws.specs.Tables.{upto, from}
@@ -50,16 +50,6 @@ term-out w l n r h = ap (λ (b : Bool). elim b [ true ↦ some (termAt w (l * st
 never-equal : (v w : ℕ) → leafKind (kindOf v) ≡ false → equalLeaves v w ≡ false
 unfolding equalLeaves
 never-equal v w e = ap (λ (b : Bool). b && eqb v w) e
-
-leaf-kinds : (k : ℕ) → leafKind k ≡ true → (l r : ℕ) → shapeOf k l r ≡ isLeaf k l
-unfolding leafKind shapeOf
-leaf-kinds k e l r = go (eqb k 2) refl (eqb k 6) refl (eqb k 7) refl e
-  where
-    go : (a : Bool) → eqb k 2 ≡ a → (b : Bool) → eqb k 6 ≡ b → (c : Bool) → eqb k 7 ≡ c → a || (b || c) ≡ true → shapeOf k l r ≡ isLeaf k l
-    go true p b q c s e = subst (λ (k : ℕ). shapeOf k l r ≡ isLeaf k l) (sym (eqb-true k 2 p)) refl
-    go false p true q c s e = subst (λ (k : ℕ). shapeOf k l r ≡ isLeaf k l) (sym (eqb-true k 6 q)) refl
-    go false p false q true s e = subst (λ (k : ℕ). shapeOf k l r ≡ isLeaf k l) (sym (eqb-true k 7 s)) refl
-    go false p false q false s e = absurd (let z : _≡_ {A = ℕ} 0 1 = cc in omega arith)
 
 -- a word that is no leaf's is found nowhere
 none-from : (f : List ℕ) (w : List Rec) (l v i c : ℕ) → leafKind (kindOf v) ≡ false → leafFrom f w l v i c ≡ i + c

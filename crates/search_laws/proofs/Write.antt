@@ -11,7 +11,7 @@ use borrow.Author.Count.{below-more}
 use Rattle.theory.specs.Form.{Shape, isImp, shape, Book, word, goodWord}
 use Rattle.theory.specs.Term.{Piece, Rule, Node, node, by, sixOf}
 use Rattle.theory.specs.Layout.{nodeWidth, inNumbers}
-use Rattle.theory.proofs.Words.{shape-word, word-passes}
+use Rattle.theory.proofs.Words.{shape-word, plain-passes}
 use Rattle.proof_term.specs.Put.{putNode}
 use Rattle.proof_term.proofs.PutLaws.{put-length, put-lower}
 use Rattle.proof_term.proofs.NodeLaws.{Fitting, put-grows}
@@ -71,7 +71,7 @@ words-imp {f} {nf} {a} {b} {f1} e ha hb room few =
     let good : T (goodWord (take nf f1) (getD f1 nf 0)) =
     let n : length (take nf f1) ≡ nf = length-take-le nf f1 (omega (arith, same .long)) in
     subst (λ (n : ℕ). T (goodWord (take nf f1) n)) (sym at)
-    (word-passes (take nf f1) (isImp a b) (omega arith, omega arith) (omega arith, omega arith)) in
+    (plain-passes (take nf f1) (isImp a b) (omega arith, omega arith) tt (omega arith, omega arith)) in
     record {
       same = same;
       books = ap (book f1) (add-one nf) ∙ book-suc f1 nf

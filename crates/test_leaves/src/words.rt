@@ -59,8 +59,8 @@ fn sample(n: usize) -> usize {
 
 // Left n / 4 and right n % 4 of one kind at index 2: g where the layout is kept.
 fn letter(kind: usize, n: usize) {
-    let f = [0, 0, formula::pack(kind, sample(n / 4), sample(n % 4))];
-    if formula::good_word(&f, 2) {
+    let packed = formula::pack(kind, sample(n / 4), sample(n % 4));
+    if formula::laid_out(packed, 2) {
         text(b"g");
     } else {
         text(b"b");
