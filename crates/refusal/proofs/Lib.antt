@@ -3,3 +3,6 @@ pub mod Walks
 pub mod Room
 pub mod NameWalk
 pub mod TermWalk
+pub mod MarkBits
+pub mod MarkLaws
+pub mod Noted

@@ -10,6 +10,8 @@ ghost use Rattle.theory.specs.Refusal.{tooMany, outsideFrom, badAssumption, bad
 ghost use Rattle.refusal.specs.Answers.{placeOf, levelOf};
 ghost use Rattle.refusal.specs.Table.{refusedBy, numberIn, placeIn};
 
+mod marks;
+
 // The sizes of row 1 and the number of row 3.
 const MOST_WORDS: usize = 16384;
 
@@ -141,20 +143,25 @@ pub fn work_sizes(records: usize, steps: usize) -> bool
     }
 }
 
-// 2: the lowest of the first `count` words that breaks the layout; a slice that ends before the count is looked at whole.
+// 2: the lowest of the first `count` words that breaks the layout, or whose leaf symbol stands at a lower index under another leaf kind;
+// a slice that ends before the count is looked at whole.
 pub fn bad_word(words: &[u32], count: usize) -> Place
     ensures { λ r. ⌜ placeOf r ≡ badWord (take count (now (words .entry))) ⌝ }
 {
+    let mut marks = [0u8; marks::BYTES];
     let mut i = 0;
     while i < words.len() {
         if count <= i {
             return Place::Nowhere;
         }
-        if formula::good_word(words, i) {
-            i += 1;
-        } else {
+        let packed = words[i];
+        if !formula::laid_out(packed, i) {
             return Place::At(i);
         }
+        if !marks::agrees(&mut marks, packed) {
+            return Place::At(i);
+        }
+        i += 1;
     }
     Place::Nowhere
 }

@@ -1,32 +1,71 @@
--- `bad_word`: the words before i are good, so the lowest bad word is the lowest from i on. Assumes nothing.
-use Prim.Native.Nat.{_-_, _≤_, zero-le}
-use mathlib.Core.Path.{_≡_, sym, _∙_}
+-- `bad_word`: the words before i are good and noted, so the lowest bad word is the lowest from i on. Assumes nothing.
+use Prim.Native.Nat.{ℕ, _+_, _-_, _≤_, zero-le}
+use mathlib.Core.Path.{_≡_, sym, ap, _∙_, subst}
+use mathlib.Core.Bool.{Bool, not, Bool·not-not}
+use mathlib.Core.List.{List}
 use native.Mathlib.Omega.{arith}
+use borrow.Author.Needs.{needs}
 use lib.ListN.{length, take, length-take}
 use Rattle.theory.specs.Form.{badWord}
 use Rattle.refusal.specs.Answers.{placeOf}
 use Rattle.refusal.proofs.Walks.{badOnward, layout-starts, layout-ends, layout-bad, layout-good}
+use Rattle.refusal.proofs.Noted.{Noted, none-noted, broken, decides, goes-on}
 use Rattle.refusal.proofs.bad_word.Statement.{statement}
 use Rattle.refusal.proofs.bad_word.Tie as tie
 
+-- what a negated test says of the test
+flip : {b c : Bool} → not b ≡ c → b ≡ not c
+flip {b} e = sym (Bool·not-not b) ∙ ap not e
+
 abbrev Inv-loop : tie.InvT-loop
-Inv-loop f count i₀ i = (i ≤ length f) × (badOnward f count i ≡ badWord (take count f))
+Inv-loop f count marks₀ i₀ marks i = (i ≤ length f) × (badOnward f count i ≡ badWord (take count f)) × Noted marks (take i f)
 
 abbrev μ-loop : tie.MeasureT-loop
-μ-loop f count i₀ i = length f - i
+μ-loop f count marks₀ i₀ marks i = length f - i
 
 loop-holds : tie.Need-loop-holds Inv-loop μ-loop
-loop-holds c = (zero-le, layout-starts (c .before .args .words .now) (c .before .args .count))
+loop-holds c = (zero-le, layout-starts (c .before .args .words .now) (c .before .args .count), none-noted)
 
 returns : tie.Need-returns Inv-loop μ-loop
 unfolding placeOf
 returns c =
-    let a = c .before .before .before .before .args in
-    let i = c .before .before .loop .i in
-    sym (layout-ends (a .words .now) (a .count) i (omega (arith, length-take (a .count) (a .words .now)))) ∙ c .before .before .loop .inv .1
+    let at = c .before .before in
+    let a = at .before .before .args in
+    sym (layout-ends (a .words .now) (a .count) (at .loop .i) (omega (arith, length-take (a .count) (a .words .now)))) ∙ at .loop .inv .1
 
-good-word-requires : tie.Need-good-word-requires Inv-loop μ-loop
-good-word-requires c κs = tt
+mul-packed : tie.Need-mul-packed Inv-loop μ-loop
+mul-packed c = search needs
+
+shared-slice-read-packed : tie.Need-shared-slice-read-packed Inv-loop μ-loop
+shared-slice-read-packed c = search needs
+
+laid-out-requires : tie.Need-laid-out-requires Inv-loop μ-loop
+laid-out-requires c κs = tt
+
+returns-2 : tie.Need-returns-2 Inv-loop μ-loop
+unfolding placeOf
+returns-2 c =
+    let at = c .before .before .before .before .before in
+    let a = at .before .before .args in
+    let inside = c .before .before .before .before .loop-test .taken in
+    let bad = broken (a .words .now) (at .loop .i) inside (sym (c .before .laid-out .ensures) ∙ flip (c .if2 .taken)) in
+    sym (layout-bad (a .words .now) (a .count) (at .loop .i) inside (c .before .before .before .if1 .left) bad) ∙ at .loop .inv .1
+
+slice-aggregate-agrees : tie.Need-slice-aggregate-agrees Inv-loop μ-loop
+slice-aggregate-agrees c = search needs
+
+agrees-requires : tie.Need-agrees-requires Inv-loop μ-loop
+agrees-requires c κs = c .before .before .before .before .before .before .loop .inv .2 .long
+
+returns-3 : tie.Need-returns-3 Inv-loop μ-loop
+unfolding placeOf
+returns-3 c =
+    let at = c .before .before .before .before .before .before .before .before .before in
+    let a = at .before .before .args in
+    let inside = c .before .before .before .before .before .before .before .before .loop-test .taken in
+    let laid = sym (c .before .before .before .before .before .laid-out .ensures) ∙ flip (c .before .before .before .before .if2 .left) in
+    let bad = decides (a .words .now) (at .loop .i) inside (at .loop .inv .2) laid (sym (c .before .before .agrees .ensures .0) ∙ flip (c .if3 .taken)) in
+    sym (layout-bad (a .words .now) (a .count) (at .loop .i) inside (c .before .before .before .before .before .before .before .if1 .left) bad) ∙ at .loop .inv .1
 
 add-i : tie.Need-add-i Inv-loop μ-loop
 add-i c = omega arith
@@ -36,29 +75,24 @@ loop-less c = omega arith
 
 loop-again : tie.Need-loop-again Inv-loop μ-loop
 loop-again c =
-    let a = c .before .before .before .before .before .before .args in
-    let i = c .before .before .before .before .loop .i in
-    let good = sym (c .before .good-word .ensures) ∙ c .if2 .taken in (
+    let at = c .before .before .before .before .before .before .before .before .before in
+    let a = at .before .before .args in
+    let inside = c .before .before .before .before .before .before .before .before .loop-test .taken in
+    let laid = sym (c .before .before .before .before .before .laid-out .ensures) ∙ flip (c .before .before .before .before .if2 .left) in
+    let agreed = sym (c .before .before .agrees .ensures .0) ∙ flip (c .if3 .left) in
+    let good = decides (a .words .now) (at .loop .i) inside (at .loop .inv .2) laid agreed in (
       omega arith,
-      sym (layout-good (a .words .now) (a .count) i (c .before .before .before .loop-test .taken) (c .before .before .if1 .left) good)
-          ∙ c .before .before .before .before .loop .inv .1,
+      sym (layout-good (a .words .now) (a .count) (at .loop .i) inside (c .before .before .before .before .before .before .before .if1 .left) good) ∙ at .loop .inv .1,
+      subst (λ (m : List ℕ). Noted m (take (at .loop .i + 1) (a .words .now))) (sym (c .before .before .agrees .ensures .1))
+          (goes-on (a .words .now) (at .loop .i) inside (at .loop .inv .2) laid agreed),
     )
 
-returns-2 : tie.Need-returns-2 Inv-loop μ-loop
+returns-4 : tie.Need-returns-4 Inv-loop μ-loop
 unfolding placeOf
-returns-2 c =
-    let a = c .before .before .before .before .before .before .args in
-    let i = c .before .before .before .before .loop .i in
-    let bad = sym (c .before .good-word .ensures) ∙ c .if2 .left in
-    sym (layout-bad (a .words .now) (a .count) i (c .before .before .before .loop-test .taken) (c .before .before .if1 .left) bad)
-    ∙ c .before .before .before .before .loop .inv .1
-
-returns-3 : tie.Need-returns-3 Inv-loop μ-loop
-unfolding placeOf
-returns-3 c =
-    let a = c .before .before .before .args in
-    let i = c .before .loop .i in
-    sym (layout-ends (a .words .now) (a .count) i (omega (arith, length-take (a .count) (a .words .now)))) ∙ c .before .loop .inv .1
+returns-4 c =
+    let at = c .before in
+    let a = at .before .before .args in
+    sym (layout-ends (a .words .now) (a .count) (at .loop .i) (omega (arith, length-take (a .count) (a .words .now)))) ∙ at .loop .inv .1
 
 pub bad-word-spec : {M : Type 1} → statement M
 bad-word-spec =
@@ -68,9 +102,14 @@ bad-word-spec =
     μ-loop
     loop-holds
     returns
-    good-word-requires
+    mul-packed
+    shared-slice-read-packed
+    laid-out-requires
+    returns-2
+    slice-aggregate-agrees
+    agrees-requires
+    returns-3
     add-i
     loop-less
     loop-again
-    returns-2
-    returns-3)
+    returns-4)
