@@ -36,7 +36,8 @@ pub fn shape(w: usize) -> Shape {
     }
 }
 
-pub fn good_word(before: usize, w: usize) -> bool {
+/// The layout of a word at an index.
+pub fn laid_out(before: usize, w: usize) -> bool {
     let (l, r) = (left_of(w), right_of(w));
     match kind_of(w) {
         0 | 1 => l == 0 && r == 0,
@@ -46,6 +47,22 @@ pub fn good_word(before: usize, w: usize) -> bool {
     }
 }
 
+/// Two leaves of one symbol and two kinds.
+pub fn clash(v: Shape, w: Shape) -> bool {
+    match (v, w) {
+        (Leaf(j, s), Leaf(k, t)) => s == t && j != k,
+        _ => false,
+    }
+}
+
+pub fn clashes(before: &[usize], w: usize) -> bool {
+    before.iter().any(|v| clash(shape(*v), shape(w)))
+}
+
+pub fn good_word(before: &[usize], w: usize) -> bool {
+    laid_out(before.len(), w) && !clashes(before, w)
+}
+
 pub fn bad_word(ws: &[usize]) -> Option<usize> {
-    (0..ws.len()).find(|i| !good_word(*i, ws[*i]))
+    (0..ws.len()).find(|i| !good_word(&ws[..*i], ws[*i]))
 }
