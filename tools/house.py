@@ -11,8 +11,9 @@ whole. A list has one of these on each line, and # begins a remark:
     goal (| p1 p0)           the goal
     let swap = (> p0 p1)     an abbreviation for the lines below; it does not come into the file
 
-Formulas are the house text's: T, F, p0, U0, E0 (symbols 0 to 16383), (& A B), (| A B), (> A B). Equal formulas share a word; the words
-stand in the order in which the formulas close, those of the assumptions first. For other words:
+Formulas are the house text's: T, F, p0, U0, E0 (symbols 0 to 16383), (& A B), (| A B), (> A B). A symbol has one kind in a file: no two
+of p0, U0 and E0 stand in it together. Equal formulas share a word; the words stand in the order in which the formulas close, those of the
+assumptions first. For other words:
 
     unshared                 every formula has words of its own (--unshared says the same)
     word 2 = (> @0 @1)       the word at index 2; its parts are words, @0 the one at index 0. Word lines come before assume and goal,
@@ -165,6 +166,27 @@ def word_fault(at, word):
     return "%s has zero fields, not %d and %d" % (sign, left, right) if left or right else None
 
 
+def kind_fault(at, word, lowest):
+    """What gives the symbol of a leaf a second kind; lowest has the lowest word of each sign and symbol so far, and gets this one."""
+    kind, symbol, _ = fields_of(word)
+    sign = SIGNS[kind]
+    if sign not in LEAVES:
+        return None
+    lowest.setdefault((sign, symbol), at)
+    others = [(lowest[other, symbol], other) for other in LEAVES if other != sign and (other, symbol) in lowest]
+    if not others:
+        return None
+    here, (lower, other) = "%s%d" % (sign, symbol), min(others)
+    return "word %d: symbol %d stands as %s here and as %s%d at word %d: a symbol has one kind" % (at, symbol, here, other, symbol, lower)
+
+
+def word_faults(words):
+    """What is wrong with each word: it breaks the layout, or a lower word has its symbol as another kind of leaf."""
+    lowest = {}
+    for at, word in enumerate(words):
+        yield word_fault(at, word) or kind_fault(at, word, lowest)
+
+
 def name_fault(name, earlier):
     if not 1 <= len(name) <= LONGEST_NAME:
         return "a name has 1 to %d bytes, not %d" % (LONGEST_NAME, len(name))
@@ -179,8 +201,8 @@ def index_fault(index, count):
 
 def faults(words, assumptions, goals, size):
     """Each thing that the program would refuse, with the part of the file where it is: its kind and its number there."""
-    for i, word in enumerate(words):
-        yield word_fault(i, word), "word", i
+    for i, fault in enumerate(word_faults(words)):
+        yield fault, "word", i
     for i, (index, name) in enumerate(assumptions):
         yield index_fault(index, len(words)), "assume", i
         yield name_fault(name, [other for _, other in assumptions[:i]]), "assume", i
@@ -405,9 +427,15 @@ class Book:
             raise Fault("cut and after are for lists with a line unchecked")
         for fault, part, i in faults(words, assumptions, goals, len(data)):
             if fault:
-                lines = self.lines[part]
-                raise Fault(fault, lines[i] if i < len(lines) else None)
+                raise Fault(fault, self.line_of(part, i, index))
         return data
+
+    def line_of(self, part, i, index):
+        """The line that a part of the file is from. A word that no word line gives is of the first formula that does not close below it."""
+        if i < len(self.lines[part]):
+            return self.lines[part][i]
+        formula_lines = self.lines["assume"] + self.lines["goal"]
+        return next(line for at, line in zip(index, formula_lines) if at >= i)
 
 
 KEYWORDS = ["assume", "goal", "let", "word", "unshared", "unchecked", "after", "cut"]

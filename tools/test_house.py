@@ -1,11 +1,13 @@
 #!/usr/bin/env python3
 """The tests of house.py: python3 tools/test_house.py"""
+import itertools
 import os
 import resource
 import stat
 import subprocess
 import sys
 import tempfile
+import time
 import unittest
 from importlib.machinery import SourceFileLoader
 from importlib.util import module_from_spec, spec_from_loader
@@ -13,7 +15,7 @@ from importlib.util import module_from_spec, spec_from_loader
 sys.dont_write_bytecode = True
 HERE = os.path.dirname(os.path.abspath(__file__))
 sys.path.insert(0, HERE)
-from house import Fault, listed, made, packed, unpacked, word_of
+from house import FIELD, LEAVES, Fault, faults, leaf_word, listed, made, packed, unpacked, word_of
 
 EXAMPLES = os.path.join(HERE, "..", "examples")
 HOUSE = [sys.executable, os.path.join(HERE, "house.py")]
@@ -155,6 +157,73 @@ class Faults(unittest.TestCase):
             for text, place, part in rows:
                 with self.subTest(wrong, text=text):
                     self.said(text, place, part)
+
+
+class Kinds(unittest.TestCase):
+    """A symbol has one kind: what is said of words where it has two, and what is no such case."""
+
+    def told(self, at, symbol, here, there, lower):
+        """What is said of the word at an index, whose symbol has another kind at a lower one."""
+        leaves = (here, symbol, there, symbol, lower)
+        return "word %d: symbol %d stands as %s%d here and as %s%d at word %d: a symbol has one kind" % (at, symbol, *leaves)
+
+    def found(self, *words):
+        """What is said of each word, a leaf by its text."""
+        words = [leaf_word(word) if isinstance(word, str) else word for word in words]
+        return [fault for fault, part, _ in faults(words, [], [0], 0) if part == "word"]
+
+    def test_the_message(self):
+        told = "LIST, line 2: word 1: symbol 5 stands as E5 here and as U5 at word 0: a symbol has one kind"
+        self.assertEqual(fault_of("assume x : U5\ngoal E5"), told)
+
+    def test_each_pair_in_both_orders(self):
+        for first, second in itertools.permutations(LEAVES, 2):
+            for symbol in [0, 5, FIELD - 1]:
+                told = self.told(1, symbol, second, first, 0)
+                self.assertEqual(self.found("%s%d" % (first, symbol), "%s%d" % (second, symbol)), [None, told])
+
+    def test_three_kinds(self):
+        told = [None, self.told(1, 5, "U", "p", 0), self.told(2, 5, "E", "p", 0), self.told(3, 5, "p", "U", 1)]
+        self.assertEqual(self.found("p5", "U5", "E5", "p5"), told)
+
+    def test_equal_words_and_other_symbols(self):
+        self.assertEqual(self.found("p5", "p5", "U6", "E4", "U6", "p5"), [None] * 6)
+        self.assertIsNone(fault_of("unshared\nassume x : U5\ngoal (& U5 U5)"))
+
+    def test_parts_are_no_symbols(self):
+        self.assertEqual(self.found("p5", word_of(3, 0, 0), word_of(4, 1, 0), word_of(5, 1, 1), "U0", "E1"), [None] * 6)
+        self.assertEqual(self.found("T", "F", "U0"), [None] * 3)
+
+    def test_a_word_that_nothing_uses(self):
+        told = "LIST, line 3: " + self.told(2, 5, "U", "p", 1)
+        self.assertEqual(fault_of("word 0 = T\nword 1 = p5\nword 2 = U5\ngoal @0"), told)
+
+    def test_the_lowest_fault_is_told(self):
+        self.assertEqual(fault_of("word 0 = p5\nword 1 = U5\nword 2 = 8\ngoal @0"), "LIST, line 2: " + self.told(1, 5, "U", "p", 0))
+        self.assertEqual(fault_of("word 0 = p5\nword 1 = 8\nword 2 = U5\ngoal @0"), "LIST, line 2: kind 8 is none of 0 to 7")
+        self.assertEqual(fault_of("assume x : p5\nassume x : p5\ngoal U5"), "LIST, line 3: " + self.told(1, 5, "U", "p", 0))
+
+    def test_the_line_is_that_of_the_formula(self):
+        told = "LIST, line 4: " + self.told(4, 1, "E", "p", 3)
+        self.assertEqual(fault_of("let a = E1\nassume x : (> p0 T)\nassume y : p1\nassume z : (& p0 a)\ngoal (| a U2)"), told)
+        told = "LIST, line 2: " + self.told(1, 0, "U", "p", 0)
+        self.assertEqual(fault_of("word 0 = p0\nassume x : (> @0 U0)\ngoal @0"), told)
+        self.assertEqual(fault_of("goal E0\nassume x : p0"), "LIST, line 1: " + self.told(1, 0, "E", "p", 0))
+
+    def test_a_let_alone_is_in_no_file(self):
+        self.assertIsNone(fault_of("let a = U5\ngoal p5"))
+
+    def test_unchecked_writes_it(self):
+        text = "unchecked\nassume x : U5\ngoal E5\n"
+        self.assertEqual(unpacked(made(text)), ([leaf_word("U5"), leaf_word("E5")], [(0, b"x")], [1], b""))
+        self.assertEqual(listed(made(text)), text)
+
+    def test_as_many_words_as_symbols_take_no_square_of_time(self):
+        atoms, begun = ["p%d" % symbol for symbol in range(FIELD)], time.process_time()
+        self.assertEqual(self.found(*atoms), [None] * FIELD)
+        last = self.told(FIELD - 1, 0, "U", "p", 0)
+        self.assertEqual(self.found(*atoms[:-1], "U0"), [None] * (FIELD - 1) + [last])
+        self.assertLess(time.process_time() - begun, 2)
 
 
 class RoundTrips(unittest.TestCase):
