@@ -77,7 +77,7 @@ class Answers(InFolder):
 
     def test_a_refusal_is_one_line_and_told_in_words(self):
         names, files = refusal_names(), sorted(name for name in os.listdir(EXAMPLES) if re.fullmatch("refused-.*[.]house", name))
-        self.assertEqual(len(files), 20)
+        self.assertEqual(len(files), 21)
         for name in files:
             path, number = os.path.join(EXAMPLES, name), int(name.split("-")[1].split(".")[0])
             status, printed, said = ran(path)
