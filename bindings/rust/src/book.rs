@@ -36,6 +36,7 @@ impl Formula {
 /// | What was built | How it is refused |
 /// |---|---|
 /// | a leaf whose symbol is over 16,383 | [`BadFormula`](crate::Refusal::BadFormula) at its index |
+/// | a leaf whose symbol stands at a lower index under another kind | [`BadFormula`](crate::Refusal::BadFormula) at its index |
 /// | a formula on a handle of another book | [`BadFormula`](crate::Refusal::BadFormula) at its index |
 /// | over 16,384 words | [`Sizes`](crate::Refusal::Sizes) |
 ///
@@ -49,6 +50,19 @@ impl Formula {
 /// let wet = book.atom(1);
 /// assert_eq!(book.implies(rain, wet), book.implies(rain, wet));
 /// assert_eq!(book.words().len(), 3);
+/// ```
+///
+/// A symbol has one kind in a book: it is an [`atom`](Book::atom)'s, a [`for_all`](Book::for_all)'s or an [`exists`](Book::exists)'s. A
+/// leaf that gives it a second one is filed as any other, and the book is refused at its index, whether a claim uses it or not.
+///
+/// ```
+/// use quaysaffron::{Book, Claim, Refusal};
+///
+/// let mut book = Book::new();
+/// let everyone_closed = book.for_all(5);
+/// let ana_closed = book.atom(5);
+/// let claim = Claim::new(&book, everyone_closed).assume("sheet", everyone_closed);
+/// assert_eq!(claim.prove(), Err(Refusal::BadFormula { place: ana_closed.index() }));
 /// ```
 #[derive(Debug)]
 pub struct Book {
@@ -84,17 +98,19 @@ impl Book {
         self.filed(raw::word(raw::FALSE, 0, 0))
     }
 
-    /// A statement that the prover does not look into; `p0` in a text.
+    /// A statement that the prover does not look into; `p0` in a text. Its symbol is an atom's alone in this book.
     pub fn atom(&mut self, symbol: u16) -> Formula {
         self.leaf(raw::ATOM, symbol)
     }
 
-    /// A statement with "every", which is as a whole a leaf; `U0` in a text. It is another leaf than the atom of its symbol.
+    /// A statement with "every", which is as a whole a leaf; `U0` in a text. Its symbol is no atom's and no [`exists`](Book::exists)'s
+    /// in this book.
     pub fn for_all(&mut self, symbol: u16) -> Formula {
         self.leaf(raw::FOR_ALL, symbol)
     }
 
-    /// A statement with "some", which is as a whole a leaf; `E0` in a text.
+    /// A statement with "some", which is as a whole a leaf; `E0` in a text. Its symbol is no atom's and no [`for_all`](Book::for_all)'s
+    /// in this book.
     pub fn exists(&mut self, symbol: u16) -> Formula {
         self.leaf(raw::EXISTS, symbol)
     }

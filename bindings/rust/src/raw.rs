@@ -64,7 +64,8 @@ pub const PROGRAM_TEXT_BYTES: usize = 32_768;
 pub const TRUE: usize = 0;
 /// The kind of a formula: False.
 pub const FALSE: usize = 1;
-/// The kind of a formula: a letter. Its symbol stands at left.
+/// The kind of a formula: a letter. Its symbol stands at left. A symbol has one kind among the given words, used or not: a leaf whose
+/// symbol stands at a lower index under another kind is refused with [`BAD_FORMULA`].
 pub const ATOM: usize = 2;
 /// The kind of a formula: and. Both fields are indices of words before it.
 pub const AND: usize = 3;
@@ -119,7 +120,7 @@ pub const UNKNOWN: usize = 7;
 
 /// Number 1: something lent does not have its size.
 pub const SIZES: usize = 1;
-/// Number 2: a word breaks the layout.
+/// Number 2: a word breaks the layout, or is a leaf whose symbol stands at a lower index under another kind.
 pub const BAD_FORMULA: usize = 2;
 /// Number 3: an assumption's formula is not in the book, or there are over 64.
 pub const BAD_ASSUMPTION: usize = 3;
@@ -440,7 +441,8 @@ pub fn output(file: &[u8], out: &mut [u8; OUTPUT_BYTES]) -> usize {
     unsafe { quaysaffron_output(file.as_ptr(), file.len(), out) }
 }
 
-/// Tests the first `count` words alone, or all where there are fewer: [`BAD_FORMULA`] at the lowest that breaks the layout.
+/// Tests the first `count` words alone, or all where there are fewer: [`BAD_FORMULA`] at the lowest that breaks the layout or gives a
+/// symbol a second kind. Any number of words is tested.
 pub fn test_words(words: &[u32], count: usize) -> Tested {
     let mut tested = Tested::default();
     // SAFETY: a slice and a local's part, see above.

@@ -14,7 +14,7 @@ use Refusal::*;
 pub enum Refusal {
     /// 1: over 16,384 words, more words than the limits lend, over 16,384 nodes, or over 1,000,000 steps.
     Sizes,
-    /// 2: a word of the book breaks the layout.
+    /// 2: a word of the book breaks the layout, or is a leaf whose symbol stands at a lower index under another kind.
     BadFormula {
         /// The lowest such word.
         place: usize,
@@ -140,7 +140,10 @@ impl Refusal {
     fn words(&self) -> &'static str {
         match self {
             Sizes => "Sizes: something lent does not have its size",
-            BadFormula { .. } => "BadFormula: a word breaks the layout",
+            BadFormula { .. } => {
+                "BadFormula: a word breaks the layout, or its symbol stands at a lower index \
+                 under another kind"
+            }
             BadAssumption { .. } => {
                 "BadAssumption: a formula is not in the book, or there are over 64"
             }
