@@ -66,12 +66,32 @@ fn unprovable() {
         (&[], "F", 3, 0),
         (&[], "(| p0 (> p0 F))", 11, 1),
         (&[], "(> (> (> p0 p1) p0) p0)", 11, 4),
-        (&[("x", "U5")], "E5", 4, 0),
-        (&[("x", "U5")], "p5", 4, 0),
+        (&[("x", "U5")], "E6", 4, 0),
+        (&[("x", "U5")], "p6", 4, 0),
     ];
     for &(assumed, goal, steps, names) in cases {
         let said = Case::new(assumed, goal).claim().prove();
         assert_eq!(said, Ok(Outcome::Unprovable { steps, names }), "{goal}");
+    }
+}
+
+/// The case of U5 and E5 is refused where both words stand: a symbol has one kind (document 02, request 6).
+#[test]
+fn mixed_kinds() {
+    let cases: &[(Assumed, &str, usize)] = &[
+        (&[("x", "U5")], "E5", 1),
+        (&[("x", "E5")], "U5", 1),
+        (&[("x", "U5")], "p5", 1),
+        (&[("x", "p5")], "U5", 1),
+        (&[("x", "p16383")], "E16383", 1),
+        (&[("x", "(> p0 T)"), ("y", "U1")], "(& U1 (| p1 U0))", 4),
+    ];
+    for &(assumed, goal, place) in cases {
+        let case = Case::new(assumed, goal);
+        let refused = Refusal::BadFormula { place };
+        assert_eq!(case.claim().prove(), Err(refused), "{goal}");
+        let status = Prover::new().status(&case.book, case.goal);
+        assert_eq!(status, Err(refused), "{goal}");
     }
 }
 

@@ -20,10 +20,11 @@ fn the_examples_print_as_filed() {
 /// The words of a case stand as tools/house.py lays them, so the files are the same.
 #[test]
 fn a_claim_makes_the_example() {
-    let cases: [(&str, Assumed, &str); 4] = [
+    let cases: [(&str, Assumed, &str); 5] = [
         ("tips", TIPS, TIPS_GOAL),
         ("swap", &[("x", "(| p0 p1)")], "(| p1 p0)"),
         ("identity-a-taken", &[("a", "p0")], "(> p0 p0)"),
+        ("refused-02-mixed", &[("x", "U5")], "E5"),
         ("refused-04-letter", &[("odd penny", "p0")], "p0"),
     ];
     for (name, assumed, goal) in cases {

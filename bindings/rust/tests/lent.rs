@@ -1,10 +1,10 @@
 //! What every lent slice holds after a call, each full of junk before it.
 mod common;
 
+use common::slices::{refused, Lent, JUNK};
 use common::{Case, Random};
 use quaysaffron::raw::{self, Answer, Record, Tested, Written};
 
-const JUNK: u8 = 0xaa;
 const P0: u32 = raw::word(raw::ATOM, 0, 0);
 const P1: u32 = raw::word(raw::ATOM, 1, 0);
 const FREE: u32 = raw::word(raw::ATOM, raw::FIRST_FREE_SYMBOL as usize, 0);
@@ -27,57 +27,10 @@ const SWAP_NODES: [[u16; raw::NODE_NUMBERS]; 6] = [
     ],
 ];
 
-#[derive(Clone, Debug, PartialEq)]
-struct Lent {
-    words: Vec<u32>,
-    terms: Vec<u16>,
-    work: Vec<Record>,
-}
-
-impl Lent {
-    /// The given words and junk behind them, and nothing else but junk.
-    fn new(given: &[u32], room: usize, nodes: usize, junk: u8) -> Lent {
-        let half = u16::from_le_bytes([junk; 2]);
-        let mut words = given.to_vec();
-        words.resize(given.len() + room, u32::from_le_bytes([junk; 4]));
-        let record = Record {
-            formula: half,
-            term: half,
-        };
-        Lent {
-            words,
-            terms: vec![half; nodes * raw::NODE_NUMBERS],
-            work: vec![record; raw::WORK_RECORDS],
-        }
-    }
-
-    /// The given words and nodes, and nothing else but zero.
-    fn left(&self, words: &[u32], numbers: &[u16]) -> Lent {
-        let mut left = Lent::new(
-            &[],
-            self.words.len(),
-            self.terms.len() / raw::NODE_NUMBERS,
-            0,
-        );
-        left.words[..words.len()].copy_from_slice(words);
-        left.terms[..numbers.len()].copy_from_slice(numbers);
-        left
-    }
-}
-
 /// A search for SWAP's goal from x, the count and the steps given.
 fn swap(lent: &mut Lent, count: usize, names: &[u8], goal: usize, steps: usize) -> Answer {
     let Lent { words, terms, work } = lent;
     raw::prove(words, count, &[2], names, goal, terms, work, steps)
-}
-
-fn refused(number: usize, place: usize) -> Answer {
-    Answer {
-        kind: raw::REFUSED,
-        number,
-        place,
-        ..Answer::default()
-    }
 }
 
 fn short(number: usize, steps: usize) -> Answer {

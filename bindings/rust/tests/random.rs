@@ -1,10 +1,81 @@
-//! Random books: what a prover says of a claim is what is printed for the claim's house file, and what it said before changes nothing.
+//! Random books: what a prover says of a claim is what is printed for the claim's house file, and what it said before changes nothing;
+//! and words are refused where row 2, worked out once more, refuses them.
 mod common;
 
 use common::{lines, Random};
 use quaysaffron::{output, raw, Book, Claim, Limits, Outcome, Prover, Refusal, Status};
 
 const BOOKS: usize = 10_000;
+
+/// The kinds of leaves.
+const LEAVES: [usize; 3] = [raw::ATOM, raw::FOR_ALL, raw::EXISTS];
+
+/// Kind, left and right of a word: 4 bits and two fields of 14.
+fn fields(word: u32) -> (usize, usize, usize) {
+    let word = word as usize;
+    (word % 16, word / 16 % 16384, word / 16 / 16384)
+}
+
+/// Whether a word has the layout that its kind asks for at this index.
+fn laid_out(word: u32, at: usize) -> bool {
+    let (kind, left, right) = fields(word);
+    match kind {
+        raw::TRUE | raw::FALSE => left == 0 && right == 0,
+        raw::AND | raw::OR | raw::IMPL => left < at && right < at,
+        _ => LEAVES.contains(&kind) && right == 0,
+    }
+}
+
+/// Whether two words are leaves of one symbol and of two kinds.
+fn clash(one: u32, other: u32) -> bool {
+    let [(kind, symbol, _), (other_kind, other_symbol, _)] = [one, other].map(fields);
+    let leaves = LEAVES.contains(&kind) && LEAVES.contains(&other_kind);
+    leaves && symbol == other_symbol && kind != other_kind
+}
+
+/// Row 2 of the refusals, worked out word by word and pair by pair.
+fn bad_word(words: &[u32]) -> Option<usize> {
+    let lawful = |at: usize| {
+        let word = words[at];
+        laid_out(word, at) && !words[..at].iter().any(|lower| clash(*lower, word))
+    };
+    (0..words.len()).find(|at| !lawful(*at))
+}
+
+/// A word with few symbols, each mostly of one kind, and parts that stand below it; now and then one that breaks the layout.
+fn word(random: &mut Random, at: usize) -> u32 {
+    let symbol = random.below(6);
+    let kind = LEAVES[(symbol + usize::from(random.one_in(20))) % LEAVES.len()];
+    let [left, right] = [0; 2].map(|_| random.below(at.max(1)));
+    match random.below(12) {
+        0 => raw::word([raw::TRUE, raw::FALSE][random.below(2)], 0, 0),
+        1 if random.one_in(8) => raw::word(kind, symbol, 1),
+        2..=7 if at > 0 || random.one_in(8) => raw::word(raw::AND + random.below(3), left, right),
+        _ => raw::word(kind, symbol, 0),
+    }
+}
+
+/// The test of words alone, on words that nothing need use.
+#[test]
+fn words_are_tested_as_each_pair_says() {
+    let mut random = Random(7);
+    let [mut passed, mut broken, mut mixed] = [0; 3];
+    for _ in 0..BOOKS {
+        let count = random.below(30);
+        let words: Vec<u32> = (0..count).map(|at| word(&mut random, at)).collect();
+        let tested = raw::test_words(&words, count);
+        let place = bad_word(&words);
+        let number = place.map_or(0, |_| raw::BAD_FORMULA);
+        assert_eq!((tested.number, tested.place), (number, place.unwrap_or(0)));
+        match place {
+            None => passed += 1,
+            Some(at) if laid_out(words[at], at) => mixed += 1,
+            Some(_) => broken += 1,
+        }
+    }
+    let met = [passed, broken, mixed];
+    assert!(met.iter().all(|times| *times > BOOKS / 20), "{met:?}");
+}
 
 #[test]
 fn a_claim_is_answered_as_its_file_is() {
@@ -16,6 +87,11 @@ fn a_claim_is_answered_as_its_file_is() {
         let claim = case.claim();
         let said = prover.prove(&claim);
         assert_eq!(lines(&said).as_bytes(), output(&claim.to_house_file()));
+        let faulty = match said {
+            Err(Refusal::BadFormula { place }) => Some(place),
+            _ => None,
+        };
+        assert_eq!(faulty, bad_word(case.book.words()));
         match said {
             Ok(Outcome::Proved(_)) => proved += 1,
             Ok(Outcome::Unprovable { .. }) => unprovable += 1,
@@ -72,10 +148,9 @@ fn more_room_changes_no_answer() {
     }
 }
 
-/// Whether a quantified formula or a free symbol occurs in the formula at this index. A word is a kind of 4 bits and two fields of 14.
+/// Whether a quantified formula or a free symbol occurs in the formula at this index.
 fn open(words: &[u32], index: usize) -> bool {
-    let word = words[index] as usize;
-    let (kind, left, right) = (word % 16, word / 16 % 16384, word / 16 / 16384);
+    let (kind, left, right) = fields(words[index]);
     match kind {
         raw::FOR_ALL | raw::EXISTS => true,
         raw::ATOM => left >= Book::FIRST_FREE_SYMBOL.into(),

@@ -17,15 +17,37 @@ fn proved(claim: &Claim) -> Derivation {
 #[test]
 fn equal_words_are_shared() {
     let mut book = Book::new();
-    let text = "(> (& p0 U0) (| (& p0 U0) (> E0 F)))";
+    let text = "(> (& p0 U1) (| (& p0 U1) (> E2 F)))";
     let first = formula(&mut book, text);
     let words = book.words().to_vec();
     assert_eq!(formula(&mut book, text), first);
     assert_eq!(book.words(), words);
     assert_eq!(words.len(), 8);
-    let (p0, u0) = (book.atom(0), book.for_all(0));
-    assert_ne!(p0, u0);
-    assert_ne!(book.and(p0, u0), book.and(u0, p0));
+    let (p0, u1) = (book.atom(0), book.for_all(1));
+    assert_ne!(p0, u1);
+    assert_ne!(book.and(p0, u1), book.and(u1, p0));
+}
+
+/// A book takes them as two leaves, and every call refuses the later one, whatever is built on it.
+#[test]
+fn a_symbol_under_two_kinds() {
+    let kinds: [fn(&mut Book, u16) -> Formula; 3] = [Book::atom, Book::for_all, Book::exists];
+    for (first, second) in [(0, 1), (1, 0), (0, 2), (2, 0), (1, 2), (2, 1)] {
+        let mut book = Book::new();
+        let symbol = Book::LAST_SYMBOL;
+        let [one, other] = [first, second].map(|kind| kinds[kind](&mut book, symbol));
+        assert_ne!(one, other);
+        let refused = Refusal::BadFormula {
+            place: other.index(),
+        };
+        let both = book.and(other, one);
+        for goal in [one, other, both] {
+            let claim = Claim::new(&book, goal).assume("x", goal);
+            assert_eq!(claim.prove(), Err(refused));
+            assert_eq!(Prover::new().status(&book, goal), Err(refused));
+            assert_eq!(quaysaffron::output(&claim.to_house_file()), b"refused 2\n");
+        }
+    }
 }
 
 #[test]

@@ -2,6 +2,8 @@
 // each test uses a part of it
 #![allow(dead_code)]
 
+pub mod slices;
+
 use quaysaffron::{Book, Claim, Formula, Outcome, Refusal};
 use std::path::PathBuf;
 
@@ -128,18 +130,20 @@ impl Random {
         ((twice ^ twice >> 31) % bound as u64) as usize
     }
 
-    fn one_in(&mut self, many: usize) -> bool {
+    pub fn one_in(&mut self, many: usize) -> bool {
         self.below(many) == 0
     }
 
+    /// Each symbol of one kind, the first four those of atoms; now and then one that no leaf has, or one under a second kind.
     fn leaf(&mut self, book: &mut Book) -> Formula {
         match self.below(16) {
             0 => book.truth(),
             1 | 2 => book.falsity(),
-            3 => book.for_all(0),
-            4 => book.exists(0),
+            3 => book.for_all(4),
+            4 => book.exists(5),
             6 => book.atom(Book::FIRST_FREE_SYMBOL),
             5 if self.one_in(40) => book.atom(Book::LAST_SYMBOL + 1),
+            7 if self.one_in(40) => book.exists(self.below(5) as u16),
             symbol => book.atom(symbol as u16 % 4),
         }
     }
