@@ -62,7 +62,9 @@ extern "C" {
 #define QUAYSAFFRON_PROGRAM_STEPS 1000000
 #define QUAYSAFFRON_PROGRAM_TEXT_BYTES 32768
 
-/* Kinds of formulas. A leaf has its symbol at left and 0 at right, And, Or and Impl the indices of two words before their own. */
+/* Kinds of formulas. A leaf has its symbol at left and 0 at right, And, Or and Impl the indices of two words before their own. A symbol
+ * has one kind among the given words, used or not: a leaf whose symbol stands at a lower index under another kind is refused with
+ * QUAYSAFFRON_BAD_FORMULA. */
 #define QUAYSAFFRON_TRUE 0
 #define QUAYSAFFRON_FALSE 1
 #define QUAYSAFFRON_ATOM 2
@@ -98,7 +100,7 @@ extern "C" {
 /* The numbers that come back. 0 is none of them. Of several refusals the lowest number comes back, but for a text 13 comes before 12, and
  * for a house file 14 before all others. */
 #define QUAYSAFFRON_SIZES 1 /* a size above is not kept; count is over words_length, or the nodes are more than terms_length holds */
-#define QUAYSAFFRON_BAD_FORMULA 2 /* place: the lowest word that breaks the layout */
+#define QUAYSAFFRON_BAD_FORMULA 2 /* place: the lowest word that breaks the layout, or whose symbol stands before it under another kind */
 #define QUAYSAFFRON_BAD_ASSUMPTION 3 /* over 64 (place 64), or place: the first whose formula's index is not below count */
 #define QUAYSAFFRON_BAD_NAMES 4 /* place: the first name at fault or repeated, or the count of names where text follows the last one */
 #define QUAYSAFFRON_BAD_GOAL 5 /* the goal is not below count */
@@ -223,7 +225,8 @@ size_t quaysaffron_name(size_t index, uint8_t *name, size_t name_length, size_t 
  * front of out, and zeros are behind them. There is no number: a refusal is the line `refused N`. */
 size_t quaysaffron_output(const uint8_t *file, size_t file_length, uint8_t out[QUAYSAFFRON_OUTPUT_BYTES]);
 
-/* Tests the first count words alone, or all where there are fewer: returns 0 and sets place to 0, or 2 and the place. */
+/* Tests the first count words alone, or all where there are fewer: returns 0 and sets place to 0, or 2 and the place, that of the lowest
+ * word that breaks the layout or gives a symbol a second kind. Any number of words is tested. */
 size_t quaysaffron_test_words(const uint32_t *words, size_t words_length, size_t count, size_t *place);
 
 /* Tests a text that is to hold so many names: returns 0 and sets place to 0, or 4 and the place. Any number of names is tested, in a time
