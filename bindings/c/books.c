@@ -3,6 +3,8 @@
 #include <stdio.h>
 #include <string.h>
 
+const size_t leaf_kinds[LEAF_KINDS] = {QUAYSAFFRON_ATOM, QUAYSAFFRON_FOR_ALL, QUAYSAFFRON_EXISTS};
+
 void clear(struct book *book)
 {
     memset(book, 0, sizeof *book);
@@ -27,9 +29,14 @@ size_t falsity(struct book *book)
     return add(book, quaysaffron_word(QUAYSAFFRON_FALSE, 0, 0));
 }
 
+size_t leaf(struct book *book, size_t kind, size_t symbol)
+{
+    return add(book, quaysaffron_word(kind, symbol, 0));
+}
+
 size_t atom(struct book *book, size_t symbol)
 {
-    return add(book, quaysaffron_word(QUAYSAFFRON_ATOM, symbol, 0));
+    return leaf(book, QUAYSAFFRON_ATOM, symbol);
 }
 
 size_t join(struct book *book, size_t kind, size_t a, size_t b)
@@ -63,12 +70,12 @@ size_t balanced(struct book *book, size_t kind, size_t symbol, size_t atoms)
     return join(book, kind, left, balanced(book, kind, symbol + half, atoms - half));
 }
 
-size_t disjunction(struct book *book, size_t leaves, size_t leaf)
+size_t disjunction(struct book *book, size_t many, size_t formula)
 {
-    size_t full = leaf, result = leaf;
+    size_t full = formula, result = formula;
     bool begun = false;
-    for (; 0 < leaves; leaves /= 2) {
-        if (leaves % 2 == 1) {
+    for (; 0 < many; many /= 2) {
+        if (many % 2 == 1) {
             result = begun ? join(book, QUAYSAFFRON_OR, full, result) : full;
             begun = true;
         }

@@ -6,6 +6,10 @@
 
 enum { BOOK_NAMES = TOO_MANY_ASSUMPTIONS * (1 + UINT8_MAX) };
 
+/* The kinds of leaves. */
+enum { LEAF_KINDS = 3 };
+extern const size_t leaf_kinds[LEAF_KINDS];
+
 struct book {
     uint32_t words[QUAYSAFFRON_MOST_WORDS];
     size_t count;
@@ -24,6 +28,8 @@ size_t add(struct book *book, uint32_t word);
 
 size_t truth(struct book *book);
 size_t falsity(struct book *book);
+/* A leaf of a kind, and that of an atom. */
+size_t leaf(struct book *book, size_t kind, size_t symbol);
 size_t atom(struct book *book, size_t symbol);
 /* AND, OR or IMPL of two words. */
 size_t join(struct book *book, size_t kind, size_t a, size_t b);
@@ -36,7 +42,7 @@ size_t left_chain(struct book *book, size_t kind, size_t end, size_t times, size
 size_t balanced(struct book *book, size_t kind, size_t symbol, size_t atoms);
 
 /* A disjunction of so many times the same formula; its words are few. */
-size_t disjunction(struct book *book, size_t leaves, size_t leaf);
+size_t disjunction(struct book *book, size_t many, size_t formula);
 
 /* Assumes a formula under a name of at most 255 bytes. */
 void assume(struct book *book, const char *name, size_t formula);

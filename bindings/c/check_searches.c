@@ -334,9 +334,9 @@ static void generated_names(struct checks *checks)
     for (size_t more = 0; more < 2; more++) {
         struct book *book = start(checks);
         size_t p = atom(book, 0);
-        size_t leaf = join(book, QUAYSAFFRON_IMPL, p, atom(book, 1));
+        size_t tried = join(book, QUAYSAFFRON_IMPL, p, atom(book, 1));
         struct search lent;
-        book->goal = disjunction(book, QUAYSAFFRON_LAST_INDEX + 1 + more, leaf);
+        book->goal = disjunction(book, QUAYSAFFRON_LAST_INDEX + 1 + more, tried);
         lent = ample(checks);
         if (more == 0) {
             expect(checks, STATUS_TOO, &lent, "as many names as there are", unprovable(32765));
@@ -391,11 +391,11 @@ static void contexts_and_levels(struct checks *checks)
 static struct search lay_open(struct checks *checks, bool both_ways)
 {
     struct book *book = start(checks);
-    size_t leaf = atom(book, QUAYSAFFRON_FIRST_FREE_SYMBOL);
-    book->goal = leaf;
+    size_t letter = atom(book, QUAYSAFFRON_FIRST_FREE_SYMBOL);
+    book->goal = letter;
     if (both_ways) {
         size_t falsity = join(book, QUAYSAFFRON_FALSE, 0, 0);
-        book->goal = join(book, QUAYSAFFRON_AND, leaf, join(book, QUAYSAFFRON_IMPL, leaf, falsity));
+        book->goal = join(book, QUAYSAFFRON_AND, letter, join(book, QUAYSAFFRON_IMPL, letter, falsity));
     }
     return ample(checks);
 }

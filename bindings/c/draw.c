@@ -23,9 +23,12 @@ bool once_in(struct dice *dice, size_t times)
     return below(dice, times) == 0;
 }
 
-/* Few symbols, so that equal leaves meet. */
+/* So many symbols has each kind of leaf, few, so that equal leaves meet: the first kind the lowest ones, the next kind the next. */
+enum { FEW = 3 };
+
 static size_t draw_leaf(struct dice *dice, struct book *book)
 {
+    size_t quantified;
     switch (below(dice, 12)) {
     case 0:
         return truth(book);
@@ -33,11 +36,12 @@ static size_t draw_leaf(struct dice *dice, struct book *book)
     case 2:
         return falsity(book);
     case 3:
-        return add(book, quaysaffron_word(QUAYSAFFRON_FOR_ALL + below(dice, 2), below(dice, 2), 0));
+        quantified = FEW + below(dice, (LEAF_KINDS - 1) * FEW);
+        return leaf(book, leaf_kinds[quantified / FEW], quantified);
     case 4:
         return atom(book, once_in(dice, 2) ? QUAYSAFFRON_FIRST_FREE_SYMBOL : QUAYSAFFRON_LAST_SYMBOL);
     default:
-        return atom(book, below(dice, 3));
+        return atom(book, below(dice, FEW));
     }
 }
 
@@ -108,8 +112,8 @@ static void draw_wide(struct dice *dice, struct book *book)
 static void draw_naming(struct dice *dice, struct book *book)
 {
     size_t p = atom(book, 0);
-    size_t leaf = join(book, QUAYSAFFRON_IMPL, p, atom(book, 1));
-    book->goal = disjunction(book, QUAYSAFFRON_LAST_INDEX - 4 + below(dice, 12), leaf);
+    size_t tried = join(book, QUAYSAFFRON_IMPL, p, atom(book, 1));
+    book->goal = disjunction(book, QUAYSAFFRON_LAST_INDEX - 4 + below(dice, 12), tried);
 }
 
 /* Terms: eleven disjunctions split, which takes over 4,096 nodes. */
@@ -168,6 +172,16 @@ void draw_book(struct dice *dice, struct book *book, bool *large)
     }
 }
 
+void damage_words(struct dice *dice, struct book *book)
+{
+    uint32_t *word = &book->words[below(dice, book->count)];
+    if (once_in(dice, 2)) {
+        *word ^= UINT32_C(1) << below(dice, 32);
+    } else {
+        *word = quaysaffron_word(leaf_kinds[below(dice, LEAF_KINDS)], below(dice, LEAF_KINDS * FEW), 0);
+    }
+}
+
 void damage_names(struct dice *dice, struct book *book)
 {
     size_t length = book->names_length;
@@ -206,7 +220,7 @@ void damage_book(struct dice *dice, struct book *book)
 {
     switch (below(dice, 4)) {
     case 0:
-        book->words[below(dice, book->count)] ^= UINT32_C(1) << below(dice, 32);
+        damage_words(dice, book);
         break;
     case 1:
         damage_assumptions(dice, book);

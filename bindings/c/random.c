@@ -391,7 +391,7 @@ static void try_test_words(struct trial *trial)
     struct refusal refusal;
     draw_book(dice, book, &trial->large);
     if (once_in(dice, 2)) {
-        book->words[below(dice, book->count)] ^= UINT32_C(1) << below(dice, 32);
+        damage_words(dice, book);
     }
     length = below(dice, book->count + 1);
     counted = once_in(dice, 8) ? draw(dice) : below(dice, book->count + 3);

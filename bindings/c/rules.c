@@ -11,12 +11,20 @@ static struct refusal refused(size_t number, size_t place)
     return refusal;
 }
 
-static bool good_word(uint32_t word, size_t index)
+static size_t kind_of(uint32_t word)
 {
-    size_t kind = word & KIND_BITS;
-    size_t left = word >> QUAYSAFFRON_LEFT_SHIFT & QUAYSAFFRON_LAST_SYMBOL;
-    size_t right = word >> QUAYSAFFRON_RIGHT_SHIFT;
-    switch (kind) {
+    return word & KIND_BITS;
+}
+
+static size_t left_of(uint32_t word)
+{
+    return word >> QUAYSAFFRON_LEFT_SHIFT & QUAYSAFFRON_LAST_SYMBOL;
+}
+
+static bool good_layout(uint32_t word, size_t index)
+{
+    size_t left = left_of(word), right = word >> QUAYSAFFRON_RIGHT_SHIFT;
+    switch (kind_of(word)) {
     case QUAYSAFFRON_TRUE:
     case QUAYSAFFRON_FALSE:
         return left == 0 && right == 0;
@@ -33,10 +41,26 @@ static bool good_word(uint32_t word, size_t index)
     }
 }
 
+enum { SYMBOLS = QUAYSAFFRON_LAST_SYMBOL + 1 };
+
+/* Whether a word gives no symbol a second kind. Kinds has that of each symbol's leaves so far, and 0, which no leaf has, of the others. */
+static bool keeps_kinds(uint32_t word, uint8_t kinds[SYMBOLS])
+{
+    uint8_t kind = (uint8_t)kind_of(word), *kept = &kinds[left_of(word)];
+    if (kind != QUAYSAFFRON_ATOM && kind != QUAYSAFFRON_FOR_ALL && kind != QUAYSAFFRON_EXISTS) {
+        return true;
+    }
+    if (*kept == 0) {
+        *kept = kind;
+    }
+    return *kept == kind;
+}
+
 struct refusal words_refusal(const uint32_t *words, size_t words_length, size_t count)
 {
+    uint8_t kinds[SYMBOLS] = {0};
     for (size_t i = 0; i < count && i < words_length; i++) {
-        if (!good_word(words[i], i)) {
+        if (!good_layout(words[i], i) || !keeps_kinds(words[i], kinds)) {
             return refused(QUAYSAFFRON_BAD_FORMULA, i);
         }
     }
