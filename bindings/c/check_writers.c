@@ -178,6 +178,13 @@ static void expect_test(struct checks *checks, test_call *test, size_t length, s
     check(checks, returned == number && at == place && memcmp(&room->before, &room->lent, sizeof room->lent) == 0, what);
 }
 
+/* A word that is lawful behind another one; the leaves have symbols of their own. */
+static uint32_t word_of_kind(size_t kind)
+{
+    bool is_leaf = kind == QUAYSAFFRON_ATOM || kind == QUAYSAFFRON_FOR_ALL || kind == QUAYSAFFRON_EXISTS;
+    return quaysaffron_word(kind, is_leaf ? kind : 0, 0);
+}
+
 static void test_words(struct checks *checks)
 {
     enum { LAST = QUAYSAFFRON_MOST_WORDS - 1 };
@@ -186,7 +193,7 @@ static void test_words(struct checks *checks)
     expect_test(checks, of_words, 0, 0, "no word", 0, 0);
     expect_test(checks, of_words, 0, SIZE_MAX, "no word of many", 0, 0);
     for (size_t i = 0; i < QUAYSAFFRON_MOST_WORDS; i++) {
-        words[i] = quaysaffron_word(i % (QUAYSAFFRON_EXISTS + 1), 0, 0);
+        words[i] = word_of_kind(i % (QUAYSAFFRON_EXISTS + 1));
     }
     words[3] = quaysaffron_word(QUAYSAFFRON_AND, 2, 2);
     words[LAST] = quaysaffron_word(QUAYSAFFRON_OR, LAST - 1, LAST - 1);

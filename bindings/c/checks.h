@@ -19,6 +19,8 @@ void check(struct checks *checks, bool right, const char *what);
 /* Each refusal and shortage by each call that can give it, over slices full of junk. */
 void check_searches(struct checks *checks);
 void check_writers(struct checks *checks);
+/* A symbol under two kinds, by each call that tests words. */
+void check_kinds(struct checks *checks);
 /* Every example of a folder, and files that are none. */
 void check_files(struct checks *checks, const char *examples);
 

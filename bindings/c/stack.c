@@ -257,6 +257,14 @@ static const struct way ways[] = {
 
 enum { WAYS = sizeof ways / sizeof ways[0] };
 
+/* A ForAll and an Exists that nothing uses, with symbols of their own: the test of words may keep what kind each symbol has, and may do so
+ * only where there is more than one. */
+static void add_quantified(void)
+{
+    leaf(&book, QUAYSAFFRON_FOR_ALL, QUAYSAFFRON_LAST_SYMBOL - 1);
+    leaf(&book, QUAYSAFFRON_EXISTS, QUAYSAFFRON_LAST_SYMBOL - 2);
+}
+
 /* Lays the book of a way: what it supposes is an assumption, or else the left of an implication, which takes a level. */
 static void lay_way(const struct way *way, size_t symbol, bool assumed, size_t levels)
 {
@@ -270,6 +278,7 @@ static void lay_way(const struct way *way, size_t symbol, bool assumed, size_t l
         left = way->left(levels - 1, symbol);
         book.goal = join(&book, QUAYSAFFRON_IMPL, left, book.goal);
     }
+    add_quantified();
     memcpy(words, book.words, sizeof words);
     file_length = house_file(&book, file);
 }
@@ -330,6 +339,7 @@ static void start_term(void)
     memset(terms, 0, sizeof terms);
     nodes = 0;
     assume(&book, "x", atom(&book, QUAYSAFFRON_LAST_SYMBOL));
+    add_quantified();
     add_node(QUAYSAFFRON_IDENT, first);
 }
 
@@ -386,6 +396,7 @@ static void measure_applications(struct call *call)
     t = truth(&book);
     book.goal = atom(&book, 0);
     assume(&book, "x", chain(&book, QUAYSAFFRON_IMPL, t, PATH - 1, book.goal));
+    add_quantified();
     file_length = house_file(&book, file);
     measure(call, "a text of Applications", run_output, 0);
 }
@@ -402,6 +413,7 @@ static void measure_ascribed(struct call *call)
     deep = chain(&book, QUAYSAFFRON_IMPL, t, PATH / 2 - 4, book.goal);
     assume(&book, "x", join(&book, QUAYSAFFRON_IMPL, either, deep));
     assume(&book, "y", q);
+    add_quantified();
     file_length = house_file(&book, file);
     measure(call, "a text with an ascribed formula", run_output, 0);
 }
@@ -417,8 +429,25 @@ static void measure_name(struct call *call)
     measure(call, "the last index", run_name, 0);
 }
 
+/* A symbol under two kinds, which every call that tests words refuses. */
+static void measure_mixed(struct call *call, void *(*run)(void *))
+{
+    clear(&book);
+    book.goal = atom(&book, 0);
+    leaf(&book, QUAYSAFFRON_FOR_ALL, 0);
+    memcpy(words, book.words, sizeof words);
+    file_length = house_file(&book, file);
+    measure(call, "a symbol under two kinds", run, QUAYSAFFRON_BAD_FORMULA);
+}
+
 static void measure_tests(struct call *test_words, struct call *test_names)
 {
+    clear(&book);
+    for (size_t symbol = 0; symbol <= QUAYSAFFRON_LAST_SYMBOL; symbol++) {
+        leaf(&book, leaf_kinds[symbol % LEAF_KINDS], symbol);
+    }
+    memcpy(words, book.words, sizeof words);
+    measure(test_words, "16,384 leaves", run_test_words, 0);
     clear(&book);
     (void)chain(&book, QUAYSAFFRON_AND, falsity(&book), QUAYSAFFRON_MOST_WORDS - 1, 0);
     memcpy(words, book.words, sizeof words);
@@ -460,6 +489,11 @@ int main(void)
     measure_text(&calls[TEXT]);
     measure_applications(&calls[OUTPUT]);
     measure_ascribed(&calls[OUTPUT]);
+    measure_mixed(&calls[PROVE], run_prove);
+    measure_mixed(&calls[STATUS], run_status);
+    measure_mixed(&calls[TEXT], run_text);
+    measure_mixed(&calls[OUTPUT], run_output);
+    measure_mixed(&calls[TEST_WORDS], run_test_words);
     measure_tests(&calls[TEST_WORDS], &calls[TEST_NAMES]);
     for (size_t i = 0; i < CALLS; i++) {
         tell(&calls[i]);

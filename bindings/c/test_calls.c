@@ -209,6 +209,7 @@ static bool run_checks(struct checks *checks, const char *examples, const struct
 {
     check_searches(checks);
     check_writers(checks);
+    check_kinds(checks);
     check_files(checks, examples);
     check_threads(checks, list);
     if (checks->failed != 0) {
