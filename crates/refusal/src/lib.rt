@@ -159,7 +159,7 @@ pub fn bad_word(words: &[u32], count: usize) -> Place
             return Place::At(i);
         }
         if !marks::agrees(&mut marks, packed) {
-            return Place::At(i);
+            return Place::At(i); // the later of two words, where the lower one stands is not known
         }
         i += 1;
     }

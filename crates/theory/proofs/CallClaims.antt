@@ -6,6 +6,7 @@ use mathlib.Core.Bool.{false}
 use mathlib.Core.Option.{none, some}
 use mathlib.Core.Logic.{_≢_, _⊎_, _↔_}
 use mathlib.Core.List.{List, map}
+use lib.Dec.{T}
 use lib.ListN.{length, take, replicate}
 use Rattle.theory.specs.Form.{form, shape, badWord}
 use Rattle.theory.specs.Term.{Term, term, Derives, AllNamesHave}
@@ -20,13 +21,13 @@ use Rattle.theory.specs.Written.{assumptions, Logs}
 use Rattle.theory.specs.Text.{termText}
 use Rattle.theory.specs.Refusal.{Fault, Sizes, Refused, badAssumption, faultNumber, lackNumber}
 use Rattle.theory.specs.Call.{Claim, givenWords, givenBook, refusal, searchLimits, searched, proved, unprovable, shortage, refused}
-use Rattle.theory.specs.Call.{numbers, After, recordsAfter, givenBack, unchanged, answered, called}
+use Rattle.theory.specs.Call.{numbers, After, recordsAfter, givenBack, unchanged, answered, called, rightSizes}
 use Rattle.theory.specs.Writer.{termDepth, Draft, draftAfter, writerRefusal, drafted, notWritten, written}
 use Rattle.theory.specs.Status.{Unknown, settled, ranShort, rejected, statusNumbers, Inquiry, firstClaim, secondClaim, secondOutcome}
 use Rattle.theory.specs.Status.{cleanedUp, asked}
 use Rattle.theory.specs.File.{File, decoded, claimOf, printed}
-use Rattle.theory.specs.Places.{LowestWord, FirstOutside, FirstFaulty, LowestNode}
-use Rattle.theory.specs.Owed.{Faulty, Bounds, ZeroAbove, Grown, FitIn, Lent, Decided, Unproved, SearchesAgain, Says, Passes}
+use Rattle.theory.specs.Places.{LowestWord, Mixed, FirstOutside, FirstFaulty, LowestNode}
+use Rattle.theory.specs.Owed.{Faulty, RefusedFrom, Bounds, ZeroAbove, Grown, FitIn, Lent, Decided, Unproved, SearchesAgain, Says, Passes}
 use Rattle.theory.proofs.Written.{one-log-only}
 use Rattle.theory.proofs.Passing.{passes}
 use Rattle.theory.proofs.Called
@@ -40,6 +41,7 @@ use Rattle.theory.proofs.StatusCalls
 use Rattle.theory.proofs.Faults
 use Rattle.theory.proofs.FirstFaults
 use Rattle.theory.proofs.FirstName
+use Rattle.theory.proofs.OneKind
 use Rattle.theory.proofs.FileRead
 use Rattle.theory.proofs.Printed
 
@@ -56,6 +58,18 @@ module _ (x : Claim) where
   -- the fault says which test refused, those before it having passed, and the place is 0 for 1 and 5
   pub refused-says : {f : Fault} {i : ℕ} → (called x) .outcome ≡ refused f i → Faulty x f i
   refused-says {f} {i} e = Faults.refused-says x (record { fault = f; place = i }) ((Called.is-refused x e) .is)
+
+  -- "one symbol, one kind": a book of right sizes in which a symbol stands under two leaf kinds is refused with 2, at the later of two words
+  -- that show it or lower
+  pub mixed-call : T (rightSizes x) → (i : ℕ) → i < length (givenWords x) → Mixed (givenWords x) i → RefusedFrom x i
+  unfolding unchanged
+  mixed-call t i inside m =
+      let r = OneKind.mixed-refused (givenWords x) i inside m in
+      record {
+        place = r .place;
+        not-above = r .not-above;
+        outcome = ap (λ (a : After). a .outcome) (Called.refused-call x (Faults.word-refused x t (r .is)));
+      }
 
   -- "a refused input changes no buffer"
   pub refused-unchanged : {f : Fault} {i : ℕ} → (called x) .outcome ≡ refused f i →

@@ -12,7 +12,7 @@ use Rattle.theory.specs.Refusal.{Fault, Sizes, BadFormula, BadAssumption
 use Rattle.theory.specs.Refusal.{badAssumption, badGoal}
 use Rattle.theory.specs.Call.{Claim, rightSizes, givenWords, refusal}
 use Rattle.theory.specs.Owed.{Faulty}
-use Rattle.theory.proofs.Tests.{none-some}
+use Rattle.theory.proofs.Tests.{none-some, true-of}
 use Rattle.theory.proofs.Passing.{fault-none, unless-none}
 
 -- the first of two tests refuses, or it passes and the second does
@@ -38,6 +38,12 @@ unless-at : (b : Bool) (i : ℕ) → unless b ≡ some i → (b ≡ false) × (i
 unfolding unless
 unless-at true i e = absurd (none-some e)
 unless-at false i e = (refl, cc)
+
+-- of right sizes, the lowest faulty word is refused
+pub word-refused : (x : Claim) {i : ℕ} → T (rightSizes x) → badWord (givenWords x) ≡ some i →
+    refusal x ≡ some (record { fault = BadFormula; place = i })
+unfolding refusal orElse faultAt unless
+word-refused x t e = rw (true-of (rightSizes x) t, e)
 
 -- a refused claim breaks what its fault says, where its place says
 pub refused-says : (x : Claim) (r : Refused) → refusal x ≡ some r → Faulty x (r .fault) (r .place)

@@ -3,7 +3,7 @@
 use Prim.Native.Nat.{ℕ, zero, suc, _≤_, _<_}
 use mathlib.Core.Path.{_≡_, refl, sym, ap, _∙_, subst}
 use mathlib.Core.Bool.{Bool, true, false, not, _&&_, _||_}
-use mathlib.Core.Option.{none, some}
+use mathlib.Core.Option.{Option, none, some}
 use mathlib.Core.Logic.{_≢_, _⊎_, inl, inr, ⊎-elim}
 use mathlib.Core.List.{List, [], _∷_}
 use native.Mathlib.Nat.{le-of-suc-le-suc}
@@ -16,7 +16,7 @@ use lib.Seq.{getD-take, length-take-le}
 use Rattle.theory.specs.Form.{Shape, isTop, isBot, isLeaf, isAnd, isOr, isImp, shape}
 use Rattle.theory.specs.Form.{laidOut, otherKind, standsOtherwise, clashes, goodWord, badWord}
 use Rattle.theory.specs.WellFormed.{LeafKind}
-use Rattle.theory.specs.Places.{LowestWord, Mixed}
+use Rattle.theory.specs.Places.{LowestWord, Mixed, RefusedBy}
 use Rattle.theory.proofs.Tests.{and-left, and-right, or-cases, true-of, T-not}
 use Rattle.theory.proofs.Words.{each-passes, word-laid}
 use Rattle.theory.proofs.TreesPass.{laid-leaf}
@@ -77,24 +77,26 @@ kind-at k s (v ∷ vs) e i k′ h q = go (otherKind k s (shape v)) refl e i h q 
     go false p e zero h q ih = first (eqb s s) (eqb k k′) refl refl (ap (otherKind k s) (sym q) ∙ p)
     go false p e (suc i) h q ih = ih e i (le-of-suc-le-suc h) q
 
-module _ (ws : List ℕ) (passed : badWord ws ≡ none) {s : ℕ} where
+module _ (ws : List ℕ) {s : ℕ} where
   -- a word that passes does not clash with those before it
-  lower-kind : {k k′ : ℕ} (i j : ℕ) → i < j → j < length ws → shape (getD ws i 0) ≡ isLeaf k s → shape (getD ws j 0) ≡ isLeaf k′ s → k′ ≡ k
-  unfolding badWord goodWord clashes
-  lower-kind {k} {k′} i j h inside at-i at-j =
-      let t : T (goodWord (take j ws) (getD ws j 0)) = each-passes [] ws passed j inside in
+  lower-kind : {k k′ : ℕ} (i j : ℕ) → T (goodWord (take j ws) (getD ws j 0)) → i < j → j < length ws →
+      shape (getD ws i 0) ≡ isLeaf k s → shape (getD ws j 0) ≡ isLeaf k′ s → k′ ≡ k
+  unfolding goodWord clashes
+  lower-kind {k} {k′} i j t h inside at-i at-j =
       let apart : clashes (take j ws) (shape (getD ws j 0)) ≡ false = T-not _ (and-right (laidOut (length (take j ws)) (getD ws j 0)) _ t) in
       kind-at k′ s (take j ws) (ap (clashes (take j ws)) (sym at-j) ∙ apart) i k
       (omega (arith, h, inside, length-take-le j ws (omega (arith, inside))))
       (ap shape (getD-take j ws i 0 h) ∙ at-i)
 
   -- two leaf words of one symbol in words that pass have one kind
-  pub one-kind : {k k′ : ℕ} (i j : ℕ) → i < length ws → j < length ws → shape (getD ws i 0) ≡ isLeaf k s → shape (getD ws j 0) ≡ isLeaf k′ s → k ≡ k′
-  one-kind {k} {k′} i j in-i in-j at-i at-j = go (decLt i j) (decLt j i)
+  pub one-kind : badWord ws ≡ none → {k k′ : ℕ} (i j : ℕ) → i < length ws → j < length ws →
+      shape (getD ws i 0) ≡ isLeaf k s → shape (getD ws j 0) ≡ isLeaf k′ s → k ≡ k′
+  unfolding badWord
+  one-kind passed {k} {k′} i j in-i in-j at-i at-j = go (decLt i j) (decLt j i)
     where
       go : Dec (i < j) → Dec (j < i) → k ≡ k′
-      go (yes h) d = sym (lower-kind i j h in-j at-i at-j)
-      go (no n) (yes h) = lower-kind j i h in-i at-j at-i
+      go (yes h) d = sym (lower-kind i j (each-passes [] ws passed j in-j) h in-j at-i at-j)
+      go (no n) (yes h) = lower-kind j i (each-passes [] ws passed i in-i) h in-i at-j at-i
       go (no n) (no m) = let same : i ≡ j = omega arith in let at : isLeaf k s ≡ isLeaf k′ s = cc in cc
 
 module _ (ws : List ℕ) (i : ℕ) (low : LowestWord ws i) where
@@ -145,6 +147,17 @@ module _ (ws : List ℕ) (i : ℕ) (low : LowestWord ws i) where
 pub clash-found : (ws : List ℕ) (i : ℕ) → badWord ws ≡ some i → (laidOut i (getD ws i 0) ≡ false) ⊎ Mixed ws i
 clash-found ws i e = broken-or-mixed ws i (lowest-word ws i e) (laidOut i (getD ws i 0)) refl
 
--- and a symbol under two kinds is refused
-pub mixed-refused : (ws : List ℕ) (i : ℕ) → i < length ws → Mixed ws i → badWord ws ≢ none
-mixed-refused ws i h m e = m .differ (one-kind ws e i (m .lower) h (omega (arith, m .below)) (m .here) (m .there))
+-- and a symbol under two kinds is refused, at the later of two words that show it or lower
+pub mixed-refused : (ws : List ℕ) (i : ℕ) → i < length ws → Mixed ws i → RefusedBy ws i
+mixed-refused ws i inside m = go (badWord ws) refl
+  where
+    no-pass : T (goodWord (take i ws) (getD ws i 0)) → ⊥
+    no-pass t = m .differ (lower-kind ws (m .lower) i t (m .below) inside (m .there) (m .here))
+
+    not-above : (j : ℕ) → LowestWord ws j → Dec (i < j) → j ≤ i
+    not-above j low (yes h) = absurd (no-pass (low .before i h))
+    not-above j low (no n) = omega arith
+
+    go : (o : Option ℕ) → badWord ws ≡ o → RefusedBy ws i
+    go none e = absurd (m .differ (one-kind ws e i (m .lower) inside (omega (arith, inside, m .below)) (m .here) (m .there)))
+    go (some j) e = record { place = j; not-above = not-above j (lowest-word ws j e) (decLt i j); is = e }

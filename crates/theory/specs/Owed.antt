@@ -55,6 +55,12 @@ Faulty x NoRoom i = ⊥
 Faulty x BadTerm i = ⊥
 Faulty x BadFile i = ⊥
 
+-- 2, at word i or at a lower one
+pub record RefusedFrom (x : Claim) (i : ℕ) : Type 0 where
+  pub place : ℕ
+  pub not-above : place ≤ i
+  pub outcome : (called x) .outcome ≡ refused BadFormula place
+
 -- "all formula words and term nodes above the fills are zero, and every work record is zero"
 pub record ZeroAbove (a : After) (f t : ℕ) : Type 0 where
   pub words : (i : ℕ) → f ≤ i → getD (a .words) i 0 ≡ 0

@@ -7,7 +7,7 @@ use mathlib.Core.Logic.{_≢_}
 use mathlib.Core.List.{List, []}
 use lib.Dec.{T}
 use lib.ListN.{length, getD, take}
-use Rattle.theory.specs.Form.{isLeaf, shape, goodWord}
+use Rattle.theory.specs.Form.{isLeaf, shape, goodWord, badWord}
 use Rattle.theory.specs.NameText.{cutEntry, namesIn, lawfulAfter}
 use Rattle.theory.specs.Layout.{lawfulNode}
 use Rattle.theory.specs.WellFormed.{LeafKind}
@@ -30,6 +30,12 @@ pub record Mixed (ws : List ℕ) (i : ℕ) : Type 0 where
   pub leaf : LeafKind kind
   pub leaf-there : LeafKind other
   pub differ : kind ≢ other
+
+-- 2, at word i or at a lower one
+pub record RefusedBy (ws : List ℕ) (i : ℕ) : Type 0 where
+  pub place : ℕ
+  pub not-above : place ≤ i
+  pub is : badWord ws ≡ some place
 
 -- 3: "the first index not below the count"
 pub record FirstOutside (count : ℕ) (hs : List ℕ) (i : ℕ) : Type 0 where
