@@ -36,10 +36,12 @@ module _ (byte m : ℕ) (small : m < 4) where
   put-beside (suc (suc zero)) zero h h′ n e = let r : (byte + m * 16) / 1 % 4 ≡ byte / 1 % 4 = omega (arith, e, small) in r
   put-beside (suc (suc zero)) (suc zero) h h′ n e = let r : (byte + m * 16) / 4 % 4 ≡ byte / 4 % 4 = omega (arith, e, small) in r
   put-beside (suc (suc zero)) (suc (suc zero)) h h′ n e = absurd (n refl)
-  put-beside (suc (suc zero)) (suc (suc (suc zero))) h h′ n e = let r : (byte + m * 16) / 64 % 4 ≡ byte / 64 % 4 = omega (arith, e, small) in r
+  put-beside (suc (suc zero)) (suc (suc (suc zero))) h h′ n e =
+      let r : (byte + m * 16) / 64 % 4 ≡ byte / 64 % 4 = omega (arith, e, small) in r
   put-beside (suc (suc (suc zero))) zero h h′ n e = let r : (byte + m * 64) / 1 % 4 ≡ byte / 1 % 4 = omega (arith, e, small) in r
   put-beside (suc (suc (suc zero))) (suc zero) h h′ n e = let r : (byte + m * 64) / 4 % 4 ≡ byte / 4 % 4 = omega (arith, e, small) in r
-  put-beside (suc (suc (suc zero))) (suc (suc zero)) h h′ n e = let r : (byte + m * 64) / 16 % 4 ≡ byte / 16 % 4 = omega (arith, e, small) in r
+  put-beside (suc (suc (suc zero))) (suc (suc zero)) h h′ n e =
+      let r : (byte + m * 64) / 16 % 4 ≡ byte / 16 % 4 = omega (arith, e, small) in r
   put-beside (suc (suc (suc zero))) (suc (suc (suc zero))) h h′ n e = absurd (n refl)
   put-beside (suc (suc (suc (suc d)))) d′ h h′ n e = absurd (omega arith)
   put-beside zero (suc (suc (suc (suc d′)))) h h′ n e = absurd (omega arith)

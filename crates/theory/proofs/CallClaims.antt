@@ -27,7 +27,8 @@ use Rattle.theory.specs.Status.{Unknown, settled, ranShort, rejected, st
 use Rattle.theory.specs.Status.{cleanedUp, asked}
 use Rattle.theory.specs.File.{File, decoded, claimOf, printed}
 use Rattle.theory.specs.Places.{LowestWord, Mixed, FirstOutside, FirstFaulty, LowestNode}
-use Rattle.theory.specs.Owed.{Faulty, RefusedFrom, Bounds, ZeroAbove, Grown, FitIn, Lent, Decided, Unproved, SearchesAgain, Says, Passes}
+use Rattle.theory.specs.Owed.{Faulty, RefusedFrom, Bounds, ZeroAbove, Grown, FitIn, Lent, Decided, Unproved, SearchesAgain, Says}
+use Rattle.theory.specs.Owed.{Passes}
 use Rattle.theory.proofs.Written.{one-log-only}
 use Rattle.theory.proofs.Passing.{passes}
 use Rattle.theory.proofs.Called
@@ -59,8 +60,8 @@ module _ (x : Claim) where
   pub refused-says : {f : Fault} {i : ℕ} → (called x) .outcome ≡ refused f i → Faulty x f i
   refused-says {f} {i} e = Faults.refused-says x (record { fault = f; place = i }) ((Called.is-refused x e) .is)
 
-  -- "one symbol, one kind": a book of right sizes in which a symbol stands under two leaf kinds is refused with 2, at the later of two words
-  -- that show it or lower
+  -- "one symbol, one kind": a book of right sizes in which a symbol stands under two leaf kinds is refused with 2, at the later of two
+  -- words that show it or lower
   pub mixed-call : T (rightSizes x) → (i : ℕ) → i < length (givenWords x) → Mixed (givenWords x) i → RefusedFrom x i
   unfolding unchanged
   mixed-call t i inside m =

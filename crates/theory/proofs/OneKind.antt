@@ -83,7 +83,8 @@ module _ (ws : List ℕ) {s : ℕ} where
       shape (getD ws i 0) ≡ isLeaf k s → shape (getD ws j 0) ≡ isLeaf k′ s → k′ ≡ k
   unfolding goodWord clashes
   lower-kind {k} {k′} i j t h inside at-i at-j =
-      let apart : clashes (take j ws) (shape (getD ws j 0)) ≡ false = T-not _ (and-right (laidOut (length (take j ws)) (getD ws j 0)) _ t) in
+      let apart : clashes (take j ws) (shape (getD ws j 0)) ≡ false =
+      T-not _ (and-right (laidOut (length (take j ws)) (getD ws j 0)) _ t) in
       kind-at k′ s (take j ws) (ap (clashes (take j ws)) (sym at-j) ∙ apart) i k
       (omega (arith, h, inside, length-take-le j ws (omega (arith, inside))))
       (ap shape (getD-take j ws i 0 h) ∙ at-i)

@@ -64,8 +64,10 @@ returns-3 c =
     let a = at .before .before .args in
     let inside = c .before .before .before .before .before .before .before .before .loop-test .taken in
     let laid = sym (c .before .before .before .before .before .laid-out .ensures) ∙ flip (c .before .before .before .before .if2 .left) in
-    let bad = decides (a .words .now) (at .loop .i) inside (at .loop .inv .2) laid (sym (c .before .before .agrees .ensures .0) ∙ flip (c .if3 .taken)) in
-    sym (layout-bad (a .words .now) (a .count) (at .loop .i) inside (c .before .before .before .before .before .before .before .if1 .left) bad) ∙ at .loop .inv .1
+    let differs = sym (c .before .before .agrees .ensures .0) ∙ flip (c .if3 .taken) in
+    let bad = decides (a .words .now) (at .loop .i) inside (at .loop .inv .2) laid differs in
+    let given = c .before .before .before .before .before .before .before .if1 .left in
+    sym (layout-bad (a .words .now) (a .count) (at .loop .i) inside given bad) ∙ at .loop .inv .1
 
 add-i : tie.Need-add-i Inv-loop μ-loop
 add-i c = omega arith
@@ -80,9 +82,10 @@ loop-again c =
     let inside = c .before .before .before .before .before .before .before .before .loop-test .taken in
     let laid = sym (c .before .before .before .before .before .laid-out .ensures) ∙ flip (c .before .before .before .before .if2 .left) in
     let agreed = sym (c .before .before .agrees .ensures .0) ∙ flip (c .if3 .left) in
-    let good = decides (a .words .now) (at .loop .i) inside (at .loop .inv .2) laid agreed in (
+    let good = decides (a .words .now) (at .loop .i) inside (at .loop .inv .2) laid agreed in
+    let given = c .before .before .before .before .before .before .before .if1 .left in (
       omega arith,
-      sym (layout-good (a .words .now) (a .count) (at .loop .i) inside (c .before .before .before .before .before .before .before .if1 .left) good) ∙ at .loop .inv .1,
+      sym (layout-good (a .words .now) (a .count) (at .loop .i) inside given good) ∙ at .loop .inv .1,
       subst (λ (m : List ℕ). Noted m (take (at .loop .i + 1) (a .words .now))) (sym (c .before .before .agrees .ensures .1))
           (goes-on (a .words .now) (at .loop .i) inside (at .loop .inv .2) laid agreed),
     )
