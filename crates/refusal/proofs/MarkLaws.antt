@@ -1,18 +1,17 @@
 -- What a table of marks says after a mark was put into it, and how a word is held against it. Assumes nothing.
 use Prim.Native.Nat.{ℕ, _+_, _*_, _/_, _%_, _^_, _<_}
-use mathlib.Core.Path.{_≡_, refl, sym, ap, _∙_}
+use mathlib.Core.Path.{_≡_}
 use mathlib.Core.Bool.{Bool, true, false}
 use mathlib.Core.Logic.{_≢_}
 use mathlib.Core.List.{List}
 use native.Mathlib.Omega.{arith}
 use borrow.Author.Tests.{eq-eqb, ne-eqb}
 use lib.Dec.{eqb}
-use lib.ListN.{length, getD, set}
-use lib.Seq.{getD-set-same, getD-set-other}
+use lib.ListN.{getD, set}
 use Rattle.theory.specs.Form.{kindOf, leftOf}
 use Rattle.formula.specs.Leaves.{leafKind}
 use Rattle.refusal.specs.Marks.{markOf, byteOf, shiftOf, markAt, marked, follows, agrees, noted}
-use Rattle.refusal.proofs.MarkBits.{put-here, put-fits, put-beside, shifted}
+use Rattle.refusal.proofs.MarkBits.{put-fits, shifted}
 
 pub mark-small : (k : ℕ) → markOf k < 4
 unfolding markOf

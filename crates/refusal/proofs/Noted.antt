@@ -1,5 +1,5 @@
 -- A table of marks after the words before a word: it tells under which kinds a symbol may still stand. Assumes nothing.
-use Prim.Native.Nat.{ℕ, zero, suc, _+_, _*_, _/_, _%_, _^_, _<_}
+use Prim.Native.Nat.{ℕ, _+_, _*_, _/_, _^_, _<_}
 use mathlib.Core.Path.{_≡_, refl, sym, ap, ap₂, _∙_, subst}
 use mathlib.Core.Bool.{Bool, true, false, not, _&&_, _||_, or-false, or-self, or-assoc, Bool·not-not}
 use mathlib.Core.Logic.{_≢_}
@@ -7,13 +7,14 @@ use mathlib.Core.List.{List, [], _∷_, _++_}
 use native.Mathlib.Omega.{arith}
 use native.Mathlib.Nat.{zero-div}
 use native.Mathlib.Numerals.{add-one}
-use borrow.Author.Tests.{eqb-true, eqb-false, eq-eqb, ne-eqb}
+use borrow.Author.Tests.{eqb-true, eqb-false}
 use lib.Dec.{T, eqb}
 use lib.ListN.{length, getD, set, take, replicate, length-set, length-replicate, getD-replicate}
 use lib.Seq.{take-suc, length-take-le, getD-set-same, getD-set-other}
 use Rattle.theory.specs.Form.{Shape, isTop, isBot, isLeaf, isAnd, isOr, isImp, kindOf, leftOf, rightOf, shape}
 use Rattle.theory.specs.Form.{laidOut, otherKind, standsOtherwise, clashes, goodWord}
 use Rattle.theory.specs.WellFormed.{LeafKind, atom, forAll, exists}
+use Rattle.theory.proofs.Words.{Plain, plain-other, plain-clashes}
 use Rattle.formula.specs.Leaves.{leafKind}
 use Rattle.formula.proofs.LeafWords.{is-leaf-kind, leaf-kinds, leaf-of-laid}
 use Rattle.refusal.specs.Marks.{markOf, bitsAt, byteOf, shiftOf, markAt, marked, follows, agrees, noted}
@@ -99,23 +100,13 @@ module _ (i w : ℕ) (laid : T (laidOut i w)) (other : leafKind (kindOf w) ≡ f
   not-a-leaf : (k s : ℕ) → shape w ≢ isLeaf k s
   not-a-leaf k s e = absurd (subst T (sym (leaf-of-laid i w k s laid e) ∙ other) tt)
 
-  plain-other : (k s : ℕ) (u : Shape) → shape w ≡ u → otherKind k s u ≡ false
-  unfolding otherKind
-  plain-other k s isTop e = refl
-  plain-other k s isBot e = refl
-  plain-other k s (isLeaf k′ s′) e = absurd (not-a-leaf k′ s′ e)
-  plain-other k s (isAnd l r) e = refl
-  plain-other k s (isOr l r) e = refl
-  plain-other k s (isImp l r) e = refl
-
-  plain-clashes : (before : List ℕ) (u : Shape) → shape w ≡ u → clashes before u ≡ false
-  unfolding clashes
-  plain-clashes before isTop e = refl
-  plain-clashes before isBot e = refl
-  plain-clashes before (isLeaf k′ s′) e = absurd (not-a-leaf k′ s′ e)
-  plain-clashes before (isAnd l r) e = refl
-  plain-clashes before (isOr l r) e = refl
-  plain-clashes before (isImp l r) e = refl
+  plain-word : (u : Shape) → shape w ≡ u → Plain u
+  plain-word isTop e = tt
+  plain-word isBot e = tt
+  plain-word (isLeaf k s) e = not-a-leaf k s e
+  plain-word (isAnd l r) e = tt
+  plain-word (isOr l r) e = tt
+  plain-word (isImp l r) e = tt
 
 -- what may follow on a symbol's mark before and after a leaf that may
 absorbed : (m k k₀ : ℕ) → follows m k₀ ≡ true → (not (follows m k) || not (follows (markOf k₀) k)) ≡ not (follows (markOf k₀) k)
@@ -161,7 +152,7 @@ module _ (ms before : List ℕ) (i w : ℕ) (known : Noted ms before) where
     agrees-is = go (leafKind (kindOf w)) refl
       where
         go : (b : Bool) → leafKind (kindOf w) ≡ b → agrees ms w ≡ not (clashes before (shape w))
-        go false e = sym ((no-leaf ms w e) .0) ∙ sym (ap not (plain-clashes i w laid e before (shape w) refl))
+        go false e = sym ((no-leaf ms w e) .0) ∙ sym (ap not (plain-clashes before (shape w) (plain-word i w laid e (shape w) refl)))
         go true e =
             of-leaf ms w e ∙ sym (Bool·not-not _) ∙ ap not (sym (known .tells (leftOf w) (is-leaf-kind (kindOf w) e) (omega arith)))
             ∙ ap (λ (u : Shape). not (clashes before u)) (sym (leaf-kinds (kindOf w) e (leftOf w) (rightOf w)))
@@ -190,7 +181,7 @@ module _ (ms before : List ℕ) (i w : ℕ) (known : Noted ms before) where
             subst (λ (m : List ℕ). Noted m (before ++ (w ∷ []))) ((no-leaf ms w e) .1) record {
               long = known .long;
               tells = λ {k} s kind h. stands-snoc k s before w
-                  ∙ ap₂ _||_ (known .tells s kind h) (plain-other i w laid e k s (shape w) refl) ∙ or-false _;
+                  ∙ ap₂ _||_ (known .tells s kind h) (plain-other k s (shape w) (plain-word i w laid e (shape w) refl)) ∙ or-false _;
             }
 
 -- the word at index i of a list, held against the marks of those before it

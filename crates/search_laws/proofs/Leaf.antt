@@ -1,6 +1,6 @@
 -- Leaves by words: the place where the code finds a leaf is where the search as written finds it, and so a record fires. Assumes nothing.
 use Prim.Native.Nat.{ℕ, zero, suc, _+_, _*_, _≤_, _<_}
-use mathlib.Core.Path.{_≡_, refl, sym, ap, _∙_, subst}
+use mathlib.Core.Path.{_≡_, refl, sym, ap, _∙_}
 use mathlib.Core.Bool.{Bool, true, false, _&&_}
 use mathlib.Core.Option.{Option, none, some}
 use mathlib.Core.List.{List, _∷_}
@@ -9,7 +9,7 @@ use native.Mathlib.Nat.{zero-add}
 use lib.ListN.{getD, take}
 use lib.Dec.{T, eqb, ltb}
 use borrow.Author.Tests.{lt-ltb, le-ltb}
-use Rattle.theory.specs.Form.{Book, Shape, isTop, isBot, isLeaf, isAnd, isOr, isImp, shape, shapeOf, look, kindOf, leftOf, rightOf}
+use Rattle.theory.specs.Form.{Book, Shape, isTop, isBot, isLeaf, isAnd, isOr, isImp, shape, look, kindOf, leftOf, rightOf}
 use Rattle.theory.specs.Form.{goodWord}
 use Rattle.theory.specs.Meter.{Entry}
 use Rattle.theory.specs.Search.{isLeaf?, firstLeaf}

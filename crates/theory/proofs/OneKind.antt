@@ -15,9 +15,8 @@ use lib.ListN.{length, getD, take}
 use lib.Seq.{getD-take, length-take-le}
 use Rattle.theory.specs.Form.{Shape, isTop, isBot, isLeaf, isAnd, isOr, isImp, shape}
 use Rattle.theory.specs.Form.{laidOut, otherKind, standsOtherwise, clashes, goodWord, badWord}
-use Rattle.theory.specs.WellFormed.{LeafKind}
 use Rattle.theory.specs.Places.{LowestWord, Mixed, RefusedBy}
-use Rattle.theory.proofs.Tests.{and-left, and-right, or-cases, true-of, T-not}
+use Rattle.theory.proofs.Tests.{and-left, and-right, or-cases, T-not}
 use Rattle.theory.proofs.Words.{each-passes, word-laid}
 use Rattle.theory.proofs.TreesPass.{laid-leaf}
 use Rattle.theory.proofs.FirstFaults.{lowest-word}

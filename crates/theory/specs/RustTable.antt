@@ -15,7 +15,7 @@ shownOf (None idx) = (bytes "None", idx)
 shownOf (panicked p) = (bytes "panicked", 0)
 shownOf unended = (bytes "unended", 0)
 
--- a case at a depth of 100, which suffices; one that runs short of a limit is left out, since the Rust has none
+-- a case at a depth of 100, which suffices; one that runs short of a limit or is refused is left out, since the Rust does neither
 unfoldable pub rustShown : Example → Outcome → List ℕ × ℕ
 rustShown x (proved r n u f t) = shownOf (proveWithAssumptions 100 (goalOf (claimIn x)) (assumptionsOf (claimIn x)))
 rustShown x (unprovable n u f t) = shownOf (proveWithAssumptions 100 (goalOf (claimIn x)) (assumptionsOf (claimIn x)))
