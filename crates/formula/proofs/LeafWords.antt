@@ -1,4 +1,4 @@
--- "Leaves are equal when their words are": for words that pass the layout test, equal words are equal kinds and symbols. Assumes nothing.
+-- "Leaves are equal when their words are": for words that pass 2, equal words are equal kinds and symbols. Assumes nothing.
 use Prim.Native.Nat.{ℕ, zero, suc}
 use mathlib.Core.Path.{_≡_, refl, sym, ap, _∙_, subst}
 use mathlib.Core.Bool.{Bool, true, false, _||_}

@@ -48,11 +48,3 @@ module _ (byte m : ℕ) (small : m < 4) where
   put-beside (suc zero) (suc (suc (suc (suc d′)))) h h′ n e = absurd (omega arith)
   put-beside (suc (suc zero)) (suc (suc (suc (suc d′)))) h h′ n e = absurd (omega arith)
   put-beside (suc (suc (suc zero))) (suc (suc (suc (suc d′)))) h h′ n e = absurd (omega arith)
-
-  -- a mark that is shifted to its place loses no bit
-  pub shifted : (d : ℕ) → d < 4 → m * 2 ^ (2 * d) % 2 ^ 8 ≡ m * 2 ^ (2 * d)
-  shifted zero h = let r : m * 1 % 256 ≡ m * 1 = omega (arith, small) in r
-  shifted (suc zero) h = let r : m * 4 % 256 ≡ m * 4 = omega (arith, small) in r
-  shifted (suc (suc zero)) h = let r : m * 16 % 256 ≡ m * 16 = omega (arith, small) in r
-  shifted (suc (suc (suc zero))) h = let r : m * 64 % 256 ≡ m * 64 = omega (arith, small) in r
-  shifted (suc (suc (suc (suc d)))) h = absurd (omega arith)

@@ -8,10 +8,11 @@ use native.Mathlib.Omega.{arith}
 use borrow.Author.Tests.{eq-eqb, ne-eqb}
 use lib.Dec.{eqb}
 use lib.ListN.{getD, set}
+use lib.Pow.{shl-exact}
 use Rattle.theory.specs.Form.{kindOf, leftOf}
 use Rattle.formula.specs.Leaves.{leafKind}
 use Rattle.refusal.specs.Marks.{markOf, byteOf, shiftOf, markAt, marked, follows, agrees, noted}
-use Rattle.refusal.proofs.MarkBits.{put-fits, shifted}
+use Rattle.refusal.proofs.MarkBits.{put-fits}
 
 pub mark-small : (k : ℕ) → markOf k < 4
 unfolding markOf
@@ -26,15 +27,18 @@ module _ (ms : List ℕ) (s k : ℕ) (h : s < 16384) (free : markAt ms s ≡ 0) 
   place : s / 4096 < 4
   place = omega arith
 
-  -- the sum that puts a mark is a byte, and the mark loses no bit before
+  -- a mark that is shifted to its place loses no bit
+  shifted : markOf k * 2 ^ shiftOf s % 2 ^ 8 ≡ markOf k * 2 ^ shiftOf s
+  shifted = shl-exact 2 (shiftOf s) 8 (mark-small k) (omega arith)
+
+  -- so the sum that puts it is a byte
   pub sum-fits : getD ms (byteOf s) 0 < 256 → getD ms (byteOf s) 0 + markOf k * 2 ^ shiftOf s % 2 ^ 8 < 256
   unfolding markAt
-  sum-fits b = rw (shifted (getD ms (byteOf s) 0) (markOf k) (mark-small k) (s / 4096) place)
-      (put-fits (getD ms (byteOf s) 0) (markOf k) (mark-small k) (s / 4096) place b free)
+  sum-fits b = rw shifted (put-fits (getD ms (byteOf s) 0) (markOf k) (mark-small k) (s / 4096) place b free)
 
   pub sum-is : set ms (byteOf s) (getD ms (byteOf s) 0 + markOf k * 2 ^ shiftOf s % 2 ^ 8) ≡ marked ms s (markOf k)
   unfolding marked
-  sum-is = rw (shifted (getD ms (byteOf s) 0) (markOf k) (mark-small k) (s / 4096) place)
+  sum-is = rw shifted
 
 -- a word that is no leaf's; a leaf's; one whose symbol has no mark; one whose symbol has one
 module _ (ms : List ℕ) (w : ℕ) where

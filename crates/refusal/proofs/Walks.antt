@@ -21,18 +21,18 @@ good-here : (before ws : List ℕ) (w : ℕ) → goodWord before w ≡ true → 
 unfolding badFrom
 good-here before ws w e = rw (e, badFrom)
 
--- the layout of the first `count` words from index i on, the words before it being good
+-- the lowest faulty of the first `count` words from index i on, the words before it being good
 abbrev pub badOnward : List ℕ → ℕ → ℕ → Option ℕ
 badOnward f count i = badFrom (take i f) (drop i (take count f))
 
-pub layout-starts : (f : List ℕ) (count : ℕ) → badOnward f count 0 ≡ badWord (take count f)
+pub onward-starts : (f : List ℕ) (count : ℕ) → badOnward f count 0 ≡ badWord (take count f)
 unfolding badWord
-layout-starts f count = refl
+onward-starts f count = refl
 
 module _ (f : List ℕ) (count i : ℕ) where
-  pub layout-ends : length (take count f) ≤ i → badOnward f count i ≡ none
+  pub onward-ends : length (take count f) ≤ i → badOnward f count i ≡ none
   unfolding badFrom
-  layout-ends h = rw (drop-of-length-le (take count f) h)
+  onward-ends h = rw (drop-of-length-le (take count f) h)
 
 module _ (f : List ℕ) (count i : ℕ) (inside : i < length f) (given : i < count) where
   here : drop i (take count f) ≡ getD f i 0 ∷ drop (suc i) (take count f)
@@ -40,13 +40,13 @@ module _ (f : List ℕ) (count i : ℕ) (inside : i < length f) (given : i < cou
       let h : i < length (take count f) = rw (length-take count f) (omega arith) in
       drop-cons (take count f) i 0 h ∙ ap (λ (w : ℕ). w ∷ drop (suc i) (take count f)) (getD-take count f i 0 given)
 
-  pub layout-bad : goodWord (take i f) (getD f i 0) ≡ false → badOnward f count i ≡ some i
-  layout-bad e =
+  pub onward-bad : goodWord (take i f) (getD f i 0) ≡ false → badOnward f count i ≡ some i
+  onward-bad e =
       ap (badFrom (take i f)) here ∙ bad-here (take i f) (drop (suc i) (take count f)) (getD f i 0) e
       ∙ ap some (length-take-le i f (omega arith))
 
-  pub layout-good : goodWord (take i f) (getD f i 0) ≡ true → badOnward f count i ≡ badOnward f count (i + 1)
-  layout-good e =
+  pub onward-good : goodWord (take i f) (getD f i 0) ≡ true → badOnward f count i ≡ badOnward f count (i + 1)
+  onward-good e =
       ap (badFrom (take i f)) here ∙ good-here (take i f) (drop (suc i) (take count f)) (getD f i 0) e
       ∙ rw (add-one, ← take-suc f i 0 inside)
 

@@ -47,7 +47,7 @@ pub enum Tested {
     Passed,
     // 1: a lent slice, a count or the step limit has a wrong size
     Sizes,
-    // 2: this word breaks the layout
+    // 2: this word breaks the layout, or its symbol stands lower under another kind
     BadFormula(usize),
     // 3: there are too many assumptions, or this one is no given formula
     BadAssumption(usize),
@@ -159,7 +159,7 @@ pub fn bad_word(words: &[u32], count: usize) -> Place
             return Place::At(i);
         }
         if !marks::agrees(&mut marks, packed) {
-            return Place::At(i); // the later of two words, where the lower one stands is not known
+            return Place::At(i); // the later of the two words: the marks do not tell where the lower one stands
         }
         i += 1;
     }

@@ -7,28 +7,38 @@ ghost use Rattle.refusal.specs.Marks.{markOf, shiftOf, markAt, marked, a
 // The bytes of a table.
 pub const BYTES: usize = 4096;
 
-// The mark of a symbol that has not stood yet.
+// The bits of a mark, and a mark of ones.
+const BITS: usize = 2;
+
+const MASK: u8 = 3;
+
+// The marks: of a symbol that has not stood yet, and of one that has, by its kind.
 const NONE: u8 = 0;
+
+const ATOM: u8 = 1;
+
+const FOR_ALL: u8 = 2;
+
+const EXISTS: u8 = 3;
 
 // The mark of a leaf kind.
 fn mark_of(kind: usize) -> u8
     ensures { λ r. ⌜ r ≡ markOf kind ⌝ }
 {
     if kind == formula::ATOM {
-        return 1;
+        return ATOM;
     }
     if kind == formula::FOR_ALL {
-        return 2;
+        return FOR_ALL;
     }
-    3
+    EXISTS
 }
 
 // How many bits from the low end of its byte the mark of a symbol stands.
 fn shift_of(symbol: usize) -> usize
-    requires { ⌜ symbol < 16384 ⌝ }
     ensures { λ r. ⌜ r ≡ shiftOf symbol ⌝ }
 {
-    2 * (symbol / BYTES)
+    BITS * (symbol / BYTES)
 }
 
 // The mark of a symbol.
@@ -37,7 +47,7 @@ fn mark_at(marks: &[u8], symbol: usize) -> u8
     requires given { ⌜ symbol < 16384 ⌝ }
     ensures { λ r. ⌜ r ≡ markAt (now (marks .entry)) symbol ⌝ }
 {
-    (marks[symbol % BYTES] >> shift_of(symbol)) & 3
+    (marks[symbol % BYTES] >> shift_of(symbol)) & MASK
 }
 
 // A symbol without a mark gets that of a kind.

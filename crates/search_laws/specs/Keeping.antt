@@ -22,7 +22,7 @@ pub record Same {A : Type 0} (d : A) (n : ℕ) (xs ys : List A) : Type 0 where
   pub long : length ys ≡ length xs
   pub at : (i : ℕ) → i < n → getD ys i d ≡ getD xs i d
 
--- the words below the fill pass the layout test
+-- the words below the fill pass 2
 abbrev pub Laid : List ℕ → ℕ → Type 0
 Laid f n = (i : ℕ) → i < n → T (goodWord (take i f) (getD f i 0))
 

@@ -117,6 +117,25 @@ fn layout() {
     first_bad(&late, 4);
 }
 
+// A symbol under two kinds. 5, 4101, 8197 and 12293 are neighbours in the table of marks.
+fn kinds_of_symbols() {
+    let mixed = [formula::pack(2, 5, 0), formula::pack(6, 5, 0)];
+    first_bad(&mixed, 1);
+    first_bad(&mixed, 2);
+    let equal = [formula::pack(7, 16383, 0), formula::pack(7, 16383, 0)];
+    first_bad(&equal, 2);
+    let beside = [
+        formula::pack(2, 5, 0),
+        formula::pack(6, 4101, 0),
+        formula::pack(7, 8197, 0),
+        formula::pack(2, 12293, 0),
+        formula::pack(7, 12293, 0),
+        formula::pack(6, 5, 0),
+    ];
+    first_bad(&beside, 4);
+    first_bad(&beside, 5);
+}
+
 fn same(v: u32, w: u32) {
     text(b"same leaf");
     number(v as usize);
@@ -234,6 +253,7 @@ pub fn all() {
     reading();
     kinds();
     layout();
+    kinds_of_symbols();
     leaves();
     assumptions();
     goals();

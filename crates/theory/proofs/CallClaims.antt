@@ -2,10 +2,10 @@
 -- modules cited. Assumes nothing.
 use Prim.Native.Nat.{ℕ, _*_, _+_, _≤_, _<_}
 use mathlib.Core.Path.{_≡_, sym, ap, _∙_, subst}
-use mathlib.Core.Bool.{false}
+use mathlib.Core.Bool.{false, _&&_}
 use mathlib.Core.Option.{none, some}
 use mathlib.Core.Logic.{_≢_, _⊎_, _↔_}
-use mathlib.Core.List.{List, map}
+use mathlib.Core.List.{List, [], _∷_, map}
 use lib.Dec.{T}
 use lib.ListN.{length, take, replicate}
 use Rattle.theory.specs.Form.{form, shape, badWord}
@@ -19,15 +19,15 @@ use Rattle.theory.specs.Meter.{Lack, Steps, Formulas, State, found, fail
 use Rattle.theory.specs.Log.{Logged, readOff}
 use Rattle.theory.specs.Written.{assumptions, Logs}
 use Rattle.theory.specs.Text.{termText}
-use Rattle.theory.specs.Refusal.{Fault, Sizes, Refused, badAssumption, faultNumber, lackNumber}
+use Rattle.theory.specs.Refusal.{Fault, Sizes, BadFormula, Refused, formulaSizes, nodeSizes, badAssumption, faultNumber, lackNumber}
 use Rattle.theory.specs.Call.{Claim, givenWords, givenBook, refusal, searchLimits, searched, proved, unprovable, shortage, refused}
 use Rattle.theory.specs.Call.{numbers, After, recordsAfter, givenBack, unchanged, answered, called, rightSizes}
 use Rattle.theory.specs.Writer.{termDepth, Draft, draftAfter, writerRefusal, drafted, notWritten, written}
 use Rattle.theory.specs.Status.{Unknown, settled, ranShort, rejected, statusNumbers, Inquiry, firstClaim, secondClaim, secondOutcome}
 use Rattle.theory.specs.Status.{cleanedUp, asked}
-use Rattle.theory.specs.File.{File, decoded, claimOf, printed}
+use Rattle.theory.specs.File.{File, decoded, claimOf, refusedLine, printed}
 use Rattle.theory.specs.Places.{LowestWord, Mixed, FirstOutside, FirstFaulty, LowestNode}
-use Rattle.theory.specs.Owed.{Faulty, RefusedFrom, Bounds, ZeroAbove, Grown, FitIn, Lent, Decided, Unproved, SearchesAgain, Says}
+use Rattle.theory.specs.Owed.{Faulty, RefusedUpTo, Bounds, ZeroAbove, Grown, FitIn, Lent, Decided, Unproved, SearchesAgain, Says}
 use Rattle.theory.specs.Owed.{Passes}
 use Rattle.theory.proofs.Written.{one-log-only}
 use Rattle.theory.proofs.Passing.{passes}
@@ -60,17 +60,16 @@ module _ (x : Claim) where
   pub refused-says : {f : Fault} {i : ℕ} → (called x) .outcome ≡ refused f i → Faulty x f i
   refused-says {f} {i} e = Faults.refused-says x (record { fault = f; place = i }) ((Called.is-refused x e) .is)
 
-  -- "one symbol, one kind": a book of right sizes in which a symbol stands under two leaf kinds is refused with 2, at the later of two
-  -- words that show it or lower
-  pub mixed-call : T (rightSizes x) → (i : ℕ) → i < length (givenWords x) → Mixed (givenWords x) i → RefusedFrom x i
-  unfolding unchanged
-  mixed-call t i inside m =
-      let r = OneKind.mixed-refused (givenWords x) i inside m in
-      record {
-        place = r .place;
-        not-above = r .not-above;
-        outcome = ap (λ (a : After). a .outcome) (Called.refused-call x (Faults.word-refused x t (r .is)));
-      }
+  -- of right sizes, the lowest faulty word is refused with 2 at its place
+  pub word-refused : T (rightSizes x) → {i : ℕ} → badWord (givenWords x) ≡ some i → (called x) .outcome ≡ refused BadFormula i
+  unfolding refusal unchanged
+  word-refused t e = ap (λ (a : After). a .outcome) (Called.refused-call x (Faults.word-refused (rightSizes x) _ t e))
+
+  -- "one symbol, one kind": so is a book in which a symbol stands under two leaf kinds, at the later of two words that show it or lower
+  pub mixed-call : T (rightSizes x) → (i : ℕ) → Mixed (givenWords x) i → RefusedUpTo x i
+  mixed-call t i m =
+      let r = OneKind.mixed-refused (givenWords x) i m in
+      record { place = r .place; not-above = r .not-above; outcome = word-refused t (r .is) }
 
   -- "a refused input changes no buffer"
   pub refused-unchanged : {f : Fault} {i : ℕ} → (called x) .outcome ≡ refused f i →
@@ -196,7 +195,7 @@ module _ (x : Claim) where
       (s : Term) → Derives (assumptions (givenBook x) 0 (x .assumed)) s (form (givenBook x) (x .goal)) → ⊥
   unprovable-call e = Outcomes.failed-none x (Called.fails x e)
 
-  -- what Proved returns passes the layout tests 2 and 13
+  -- what Proved returns passes 2 and 13
   pub proved-passes : {r n u f t : ℕ} → (called x) .outcome ≡ proved r n u f t →
       (badWord (take f ((called x) .words)) ≡ none) × (badTerm (namesIn (x .text)) f ((called x) .terms) t r ≡ none)
   proved-passes e = let h = Called.proves x e in (Returned.words-pass x h, Returned.nodes-pass x h)
@@ -263,6 +262,12 @@ module _ (x : Draft) (e : writerRefusal x ≡ none) where
 -- "13 changes nothing and returns its place", and so do 1 to 4
 pub written-refused : (x : Draft) {r : Refused} → writerRefusal x ≡ some r → written x ≡ notWritten x r
 written-refused x e = Writes.refused-draft x e
+
+-- and the lowest faulty word is refused with 2 by the writer as by the search
+pub word-not-written : (x : Draft) → T (formulaSizes (length (x .words)) (x .count) && nodeSizes (length (x .terms)) (x .nodes)) →
+    {i : ℕ} → badWord (take (x .count) (x .words)) ≡ some i → written x ≡ notWritten x (record { fault = BadFormula; place = i })
+unfolding writerRefusal
+word-not-written x t e = Writes.refused-draft x (Faults.word-refused _ _ t e)
 
 -- "The written text comes back as the front part of the lent buffer"
 pub written-front : (x : Draft) →
@@ -345,6 +350,12 @@ module _ (x : Inquiry) where
       asked x ≡ record { status = rejected (r .fault) (r .place); words = x .words; terms = x .terms; cleared = false }
   asked-refused = StatusCalls.asked-refused x
 
+  -- the lowest faulty word is refused with 2 by the status as by the search
+  pub word-not-asked : T (rightSizes (firstClaim x)) → {i : ℕ} → badWord (givenWords (firstClaim x)) ≡ some i →
+      asked x ≡ record { status = rejected BadFormula i; words = x .words; terms = x .terms; cleared = false }
+  unfolding refusal
+  word-not-asked t e = StatusCalls.asked-refused x (Faults.word-refused (rightSizes (firstClaim x)) _ t e)
+
   pub asked-lengths : (length ((asked x) .words) ≡ length (x .words)) × (length ((asked x) .terms) ≡ length (x .terms))
   asked-lengths = StatusCalls.asked-lengths x
 
@@ -355,6 +366,11 @@ file-bounded = FileRead.file-bounded
 -- the program answers no 1 to a file that decodes
 pub program-sizes : (bs : List ℕ) (x : File) → decoded bs ≡ some x → (goal i : ℕ) → (called (claimOf x goal)) .outcome ≢ refused Sizes i
 program-sizes = Printed.program-sizes
+
+-- and prints the line of 2 where a word of the file is at fault
+pub word-printed : (bs : List ℕ) (x : File) → decoded bs ≡ some x → (goal : ℕ) {i : ℕ} → badWord (givenWords (claimOf x goal)) ≡ some i →
+    x .goals ≡ goal ∷ [] → printed bs ≡ refusedLine 2
+word-printed = Printed.word-printed
 
 -- whatever it prints has room in 32,835 bytes
 pub printed-length : (bs : List ℕ) → length (printed bs) ≤ 32835

@@ -39,11 +39,11 @@ unfolding unless
 unless-at true i e = absurd (none-some e)
 unless-at false i e = (refl, cc)
 
--- of right sizes, the lowest faulty word is refused
-pub word-refused : (x : Claim) {i : ℕ} → T (rightSizes x) → badWord (givenWords x) ≡ some i →
-    refusal x ≡ some (record { fault = BadFormula; place = i })
-unfolding refusal orElse faultAt unless
-word-refused x t e = rw (true-of (rightSizes x) t, e)
+-- of right sizes, the lowest faulty word is refused, whatever is tested after
+pub word-refused : (b : Bool) {o : Option ℕ} {i : ℕ} (rest : Option Refused) → T b → o ≡ some i →
+    orElse (faultAt Sizes (unless b)) (orElse (faultAt BadFormula o) rest) ≡ some (record { fault = BadFormula; place = i })
+unfolding orElse faultAt unless
+word-refused b rest t e = rw (true-of b t, e)
 
 -- a refused claim breaks what its fault says, where its place says
 pub refused-says : (x : Claim) (r : Refused) → refusal x ≡ some r → Faulty x (r .fault) (r .place)

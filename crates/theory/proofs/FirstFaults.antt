@@ -55,7 +55,7 @@ lowest-from before (w ∷ ws) i e = go (goodWord before w) refl e (lowest-from (
       passed = λ j h. absurd (not-suc-le-zero h);
     }
 
--- 2 names the lowest word that breaks the layout
+-- 2 names the lowest word at fault
 pub lowest-word : (ws : List ℕ) (i : ℕ) → badWord ws ≡ some i → LowestWord ws i
 unfolding badWord
 lowest-word ws i e =

@@ -4,24 +4,24 @@ use Prim.Native.Nat.{ℕ, zero, suc, _≤_, _<_}
 use mathlib.Core.Path.{_≡_, refl, sym, ap, _∙_, subst}
 use mathlib.Core.Bool.{Bool, true, false, not, _&&_, _||_}
 use mathlib.Core.Option.{Option, none, some}
-use mathlib.Core.Logic.{_≢_, _⊎_, inl, inr, ⊎-elim}
+use mathlib.Core.Logic.{_≢_, _⊎_, _↔_, inl, inr, ⊎-elim}
 use mathlib.Core.List.{List, [], _∷_}
 use native.Mathlib.Nat.{le-of-suc-le-suc}
 use native.Mathlib.Omega.{arith}
 use native.Mathlib.Decide.{decLt}
-use borrow.Author.Tests.{eqb-true, eqb-false}
+use borrow.Author.Tests.{eqb-true, eqb-false, not-true}
 use lib.Dec.{T, eqb, eqb→eq}
 use lib.ListN.{length, getD, take}
 use lib.Seq.{getD-take, length-take-le}
 use Rattle.theory.specs.Form.{Shape, isTop, isBot, isLeaf, isAnd, isOr, isImp, shape}
 use Rattle.theory.specs.Form.{laidOut, otherKind, standsOtherwise, clashes, goodWord, badWord}
-use Rattle.theory.specs.Places.{LowestWord, Mixed, RefusedBy}
-use Rattle.theory.proofs.Tests.{and-left, and-right, or-cases, T-not}
+use Rattle.theory.specs.Places.{LowestWord, Mixed, BadUpTo}
+use Rattle.theory.proofs.Tests.{and-left, and-right, or-cases, true-of}
 use Rattle.theory.proofs.Words.{each-passes, word-laid}
 use Rattle.theory.proofs.TreesPass.{laid-leaf}
 use Rattle.theory.proofs.FirstFaults.{lowest-word}
 
--- the word at index i is a leaf of symbol s under another kind than k
+-- one of these words is a leaf of symbol s under another kind than k
 record Stands (k s : ℕ) (vs : List ℕ) : Type 0 where
   at : ℕ
   other : ℕ
@@ -35,7 +35,7 @@ here k s v vs isTop e t = absurd t
 here k s v vs isBot e t = absurd t
 here k s v vs (isLeaf k′ s′) e t =
     let same : s ≡ s′ = eqb→eq s s′ (and-left (eqb s s′) (not (eqb k k′)) t) in
-    let apart : eqb k k′ ≡ false = T-not (eqb k k′) (and-right (eqb s s′) (not (eqb k k′)) t) in
+    let apart : eqb k k′ ≡ false = not-true (eqb k k′) (true-of _ (and-right (eqb s s′) (not (eqb k k′)) t)) in
     record {
       at = 0;
       other = k′;
@@ -83,7 +83,7 @@ module _ (ws : List ℕ) {s : ℕ} where
   unfolding goodWord clashes
   lower-kind {k} {k′} i j t h inside at-i at-j =
       let apart : clashes (take j ws) (shape (getD ws j 0)) ≡ false =
-      T-not _ (and-right (laidOut (length (take j ws)) (getD ws j 0)) _ t) in
+      not-true _ (true-of _ (and-right (laidOut (length (take j ws)) (getD ws j 0)) _ t)) in
       kind-at k′ s (take j ws) (ap (clashes (take j ws)) (sym at-j) ∙ apart) i k
       (omega (arith, h, inside, length-take-le j ws (omega (arith, inside))))
       (ap shape (getD-take j ws i 0 h) ∙ at-i)
@@ -114,6 +114,7 @@ module _ (ws : List ℕ) (i : ℕ) (low : LowestWord ws i) where
         symbol = s;
         kind = k;
         other = x .other;
+        inside = low .inside;
         below = below;
         here = e;
         there = there;
@@ -147,17 +148,51 @@ module _ (ws : List ℕ) (i : ℕ) (low : LowestWord ws i) where
 pub clash-found : (ws : List ℕ) (i : ℕ) → badWord ws ≡ some i → (laidOut i (getD ws i 0) ≡ false) ⊎ Mixed ws i
 clash-found ws i e = broken-or-mixed ws i (lowest-word ws i e) (laidOut i (getD ws i 0)) refl
 
--- and a symbol under two kinds is refused, at the later of two words that show it or lower
-pub mixed-refused : (ws : List ℕ) (i : ℕ) → i < length ws → Mixed ws i → RefusedBy ws i
-mixed-refused ws i inside m = go (badWord ws) refl
+module _ (ws : List ℕ) (i : ℕ) (m : Mixed ws i) where
+  -- the later of two words of one symbol and two kinds does not pass
+  mixed-fails : T (goodWord (take i ws) (getD ws i 0)) → ⊥
+  mixed-fails t = m .differ (lower-kind ws (m .lower) i t (m .below) (m .inside) (m .there) (m .here))
+
+  not-above : (j : ℕ) → LowestWord ws j → Dec (i < j) → j ≤ i
+  not-above j low (yes h) = absurd (mixed-fails (low .before i h))
+  not-above j low (no n) = omega arith
+
+  -- so a symbol under two kinds is refused, at that word or lower
+  pub mixed-refused : BadUpTo ws i
+  mixed-refused = go (badWord ws) refl
+    where
+      go : (o : Option ℕ) → badWord ws ≡ o → BadUpTo ws i
+      go none e =
+          absurd (m .differ (one-kind ws e i (m .lower) (m .inside) (omega (arith, m .inside, m .below)) (m .here) (m .there)))
+      go (some j) e = record { place = j; not-above = not-above j (lowest-word ws j e) (decLt i j); is = e }
+
+  -- and at that word, if those below it pass
+  pub mixed-at : ((j : ℕ) → j < i → T (goodWord (take j ws) (getD ws j 0))) → badWord ws ≡ some i
+  mixed-at passed = go mixed-refused
+    where
+      same : (j : ℕ) → j ≤ i → LowestWord ws j → Dec (j < i) → j ≡ i
+      same j h low (yes k) = absurd (subst T (low .breaks) (passed j k))
+      same j h low (no n) = omega arith
+
+      go : BadUpTo ws i → badWord ws ≡ some i
+      go r = r .is ∙ ap some (same (r .place) (r .not-above) (lowest-word ws (r .place) (r .is)) (decLt (r .place) i))
+
+-- words pass exactly if each is laid out and no symbol stands under two kinds
+pub passes-exactly : (ws : List ℕ) →
+    (badWord ws ≡ none) ↔ (((i : ℕ) → i < length ws → T (laidOut i (getD ws i 0))) × ((i : ℕ) → Mixed ws i → ⊥))
+unfolding badWord
+passes-exactly ws = (λ e. (laid e, none-mixed e), λ h. back (badWord ws) refl (h .0) (h .1))
   where
-    no-pass : T (goodWord (take i ws) (getD ws i 0)) → ⊥
-    no-pass t = m .differ (lower-kind ws (m .lower) i t (m .below) inside (m .there) (m .here))
+    laid : badWord ws ≡ none → (i : ℕ) → i < length ws → T (laidOut i (getD ws i 0))
+    laid e i h =
+        subst (λ (n : ℕ). T (laidOut n (getD ws i 0))) (length-take-le i ws (omega arith))
+        (word-laid (take i ws) (getD ws i 0) (each-passes [] ws e i h))
 
-    not-above : (j : ℕ) → LowestWord ws j → Dec (i < j) → j ≤ i
-    not-above j low (yes h) = absurd (no-pass (low .before i h))
-    not-above j low (no n) = omega arith
+    none-mixed : badWord ws ≡ none → (i : ℕ) → Mixed ws i → ⊥
+    none-mixed e i m = mixed-fails ws i m (each-passes [] ws e i (m .inside))
 
-    go : (o : Option ℕ) → badWord ws ≡ o → RefusedBy ws i
-    go none e = absurd (m .differ (one-kind ws e i (m .lower) inside (omega (arith, inside, m .below)) (m .here) (m .there)))
-    go (some j) e = record { place = j; not-above = not-above j (lowest-word ws j e) (decLt i j); is = e }
+    back : (o : Option ℕ) → badWord ws ≡ o → ((i : ℕ) → i < length ws → T (laidOut i (getD ws i 0))) → ((i : ℕ) → Mixed ws i → ⊥) →
+        badWord ws ≡ none
+    back none e f g = e
+    back (some i) e f g =
+        absurd (⊎-elim (λ p. subst T p (f i ((lowest-word ws i e) .inside))) (g i) (clash-found ws i e))

@@ -1,25 +1,27 @@
 -- What the program prints: it has room in a buffer of a fixed size, and is never 1. Assumes nothing.
 use Prim.Native.Nat.{ℕ, zero, suc, _+_, _*_, _/_, _%_, _≤_}
-use mathlib.Core.Path.{_≡_, refl, subst}
+use mathlib.Core.Path.{_≡_, refl, ap, _∙_, subst}
 use mathlib.Core.Bool.{Bool, true, false}
 use mathlib.Core.Option.{Option, none, some}
 use mathlib.Core.Logic.{_≢_}
-use mathlib.Core.List.{List, [], _∷_, _++_}
+use mathlib.Core.List.{List, [], _∷_, _++_, append-nil}
 use native.Mathlib.Nat.{le-trans}
 use native.Mathlib.Omega.{arith}
 use lib.Dec.{T, ltb, eqb}
 use lib.ListN.{length, replicate, length-append, length-replicate}
+use Rattle.theory.specs.Form.{badWord}
 use Rattle.theory.specs.NameText.{Written}
 use Rattle.theory.specs.Text.{bytes, digits}
-use Rattle.theory.specs.Refusal.{Sizes, BadFile, faultNumber, lackNumber}
-use Rattle.theory.specs.Call.{Claim, Outcome, proved, unprovable, shortage, refused, called}
+use Rattle.theory.specs.Refusal.{Sizes, BadFormula, BadFile, faultNumber, lackNumber}
+use Rattle.theory.specs.Call.{Claim, rightSizes, givenWords, refusal, Outcome, proved, unprovable, shortage, refused}
+use Rattle.theory.specs.Call.{After, unchanged, called}
 use Rattle.theory.specs.Writer.{draftAfter, written}
 use Rattle.theory.specs.File.{File, decoded, claimOf, line, counted, refusedLine, unprovableLines, provedWith, provedLines}
 use Rattle.theory.specs.File.{answerLines, goalLines, allLines, printed}
 use Rattle.theory.proofs.Writes.{written-front, buffer-length}
 use Rattle.theory.proofs.FileRead.{file-bounded, file-sizes}
-use Rattle.theory.proofs.Faults.{refused-says}
-use Rattle.theory.proofs.Called.{is-refused}
+use Rattle.theory.proofs.Faults.{word-refused, refused-says}
+use Rattle.theory.proofs.Called.{is-refused, refused-call}
 
 digits-length : (k n : ℕ) → length (digits k n) ≤ k
 unfolding digits
@@ -124,3 +126,17 @@ pub program-sizes : (bs : List ℕ) (x : File) → decoded bs ≡ some x → (go
 program-sizes bs x e goal i q =
     let says = refused-says (claimOf x goal) (record { fault = Sizes; place = i }) ((is-refused (claimOf x goal) q) .is) in
     subst T (says .0) (file-sizes x goal (file-bounded bs x e))
+
+-- a file with a faulty word
+module _ (bs : List ℕ) (x : File) (d : decoded bs ≡ some x) (goal : ℕ) {i : ℕ} (e : badWord (givenWords (claimOf x goal)) ≡ some i) where
+  refused-there : (called (claimOf x goal)) .outcome ≡ refused BadFormula i
+  unfolding refusal unchanged
+  refused-there =
+      ap (λ (a : After). a .outcome)
+      (refused-call (claimOf x goal) (word-refused (rightSizes (claimOf x goal)) _ (file-sizes x goal (file-bounded bs x d)) e))
+
+  pub word-printed : x .goals ≡ goal ∷ [] → printed bs ≡ refusedLine 2
+  unfolding printed allLines goalLines answerLines faultNumber
+  word-printed g =
+      ap (λ (o : Option File). elim o [ none ↦ refusedLine (faultNumber BadFile) | some x ↦ allLines x (x .goals) ]) d
+      ∙ ap (allLines x) g ∙ ap (λ (l : List ℕ). l ++ []) (ap (answerLines (claimOf x goal)) refused-there) ∙ append-nil (refusedLine 2)

@@ -74,7 +74,7 @@ module _ (x : Claim) {r n u f t : ℕ} (h : Proves x r n u f t) where
       (book-back (givenWords x) (k .more) (p .words) (k .imply) (subst Good (k .is) (sound-search .2))
       (subst (λ (b : Book). length b ≤ 16384) (k .is) few-words))
 
-  -- and they pass the layout test
+  -- and they pass 2
   pub words-pass : badWord (take f ((called x) .words)) ≡ none
   unfolding searched givenBook searchLimits
   words-pass =

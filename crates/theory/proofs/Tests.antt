@@ -1,5 +1,5 @@
 -- Tests joined by && and ||, taken apart and put together; and that none is no some. Assumes nothing.
-use mathlib.Core.Bool.{Bool, true, false, not, _&&_, _||_}
+use mathlib.Core.Bool.{Bool, true, false, _&&_, _||_}
 use mathlib.Core.Path.{_≡_, refl, sym, subst}
 use mathlib.Core.Option.{Option, none, some}
 use mathlib.Core.Logic.{_⊎_, inl, inr}
@@ -31,15 +31,6 @@ or-left false b t = absurd t
 pub or-right : (a b : Bool) → T b → T (a || b)
 or-right true b t = tt
 or-right false b t = t
-
--- a negation, put together and taken apart
-pub not-T : (b : Bool) → b ≡ false → T (not b)
-not-T true e = absurd (subst T e tt)
-not-T false e = tt
-
-pub T-not : (b : Bool) → T (not b) → b ≡ false
-T-not true t = absurd t
-T-not false t = refl
 
 -- a test that holds is true
 pub true-of : (b : Bool) → T b → b ≡ true

@@ -1,4 +1,4 @@
--- The words that a search leaves pass the layout test. Assumes nothing.
+-- The words that a search leaves pass 2. Assumes nothing.
 use Prim.Native.Nat.{ℕ, suc, _+_, _≤_, _<_}
 use mathlib.Core.Path.{_≡_, sym, ap, _∙_, subst}
 use mathlib.Core.Option.{none}

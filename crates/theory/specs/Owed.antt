@@ -55,8 +55,8 @@ Faulty x NoRoom i = ⊥
 Faulty x BadTerm i = ⊥
 Faulty x BadFile i = ⊥
 
--- 2, at word i or at a lower one
-pub record RefusedFrom (x : Claim) (i : ℕ) : Type 0 where
+-- the call is refused with 2, at word i or at one below it
+pub record RefusedUpTo (x : Claim) (i : ℕ) : Type 0 where
   pub place : ℕ
   pub not-above : place ≤ i
   pub outcome : (called x) .outcome ≡ refused BadFormula place

@@ -24,6 +24,7 @@ pub record Mixed (ws : List ℕ) (i : ℕ) : Type 0 where
   pub symbol : ℕ
   pub kind : ℕ
   pub other : ℕ
+  pub inside : i < length ws
   pub below : lower < i
   pub here : shape (getD ws i 0) ≡ isLeaf kind symbol
   pub there : shape (getD ws lower 0) ≡ isLeaf other symbol
@@ -31,8 +32,8 @@ pub record Mixed (ws : List ℕ) (i : ℕ) : Type 0 where
   pub leaf-there : LeafKind other
   pub differ : kind ≢ other
 
--- 2, at word i or at a lower one
-pub record RefusedBy (ws : List ℕ) (i : ℕ) : Type 0 where
+-- the lowest faulty word is word i or one below it
+pub record BadUpTo (ws : List ℕ) (i : ℕ) : Type 0 where
   pub place : ℕ
   pub not-above : place ≤ i
   pub is : badWord ws ≡ some place

@@ -1,21 +1,17 @@
 -- `bad_word`: the words before i are good and noted, so the lowest bad word is the lowest from i on. Assumes nothing.
 use Prim.Native.Nat.{ℕ, _+_, _-_, _≤_, zero-le}
-use mathlib.Core.Path.{_≡_, sym, ap, _∙_, subst}
-use mathlib.Core.Bool.{Bool, not, Bool·not-not}
+use mathlib.Core.Path.{_≡_, sym, _∙_, subst}
 use mathlib.Core.List.{List}
 use native.Mathlib.Omega.{arith}
 use borrow.Author.Needs.{needs}
+use borrow.Author.Tests.{not-true, not-false}
 use lib.ListN.{length, take, length-take}
 use Rattle.theory.specs.Form.{badWord}
 use Rattle.refusal.specs.Answers.{placeOf}
-use Rattle.refusal.proofs.Walks.{badOnward, layout-starts, layout-ends, layout-bad, layout-good}
+use Rattle.refusal.proofs.Walks.{badOnward, onward-starts, onward-ends, onward-bad, onward-good}
 use Rattle.refusal.proofs.Noted.{Noted, none-noted, broken, decides, goes-on}
 use Rattle.refusal.proofs.bad_word.Statement.{statement}
 use Rattle.refusal.proofs.bad_word.Tie as tie
-
--- what a negated test says of the test
-flip : {b c : Bool} → not b ≡ c → b ≡ not c
-flip {b} e = sym (Bool·not-not b) ∙ ap not e
 
 abbrev Inv-loop : tie.InvT-loop
 Inv-loop f count marks₀ i₀ marks i = (i ≤ length f) × (badOnward f count i ≡ badWord (take count f)) × Noted marks (take i f)
@@ -24,14 +20,14 @@ abbrev μ-loop : tie.MeasureT-loop
 μ-loop f count marks₀ i₀ marks i = length f - i
 
 loop-holds : tie.Need-loop-holds Inv-loop μ-loop
-loop-holds c = (zero-le, layout-starts (c .before .args .words .now) (c .before .args .count), none-noted)
+loop-holds c = (zero-le, onward-starts (c .before .args .words .now) (c .before .args .count), none-noted)
 
 returns : tie.Need-returns Inv-loop μ-loop
 unfolding placeOf
 returns c =
     let at = c .before .before in
     let a = at .before .before .args in
-    sym (layout-ends (a .words .now) (a .count) (at .loop .i) (omega (arith, length-take (a .count) (a .words .now)))) ∙ at .loop .inv .1
+    sym (onward-ends (a .words .now) (a .count) (at .loop .i) (omega (arith, length-take (a .count) (a .words .now)))) ∙ at .loop .inv .1
 
 mul-packed : tie.Need-mul-packed Inv-loop μ-loop
 mul-packed c = search needs
@@ -48,8 +44,8 @@ returns-2 c =
     let at = c .before .before .before .before .before in
     let a = at .before .before .args in
     let inside = c .before .before .before .before .loop-test .taken in
-    let bad = broken (a .words .now) (at .loop .i) inside (sym (c .before .laid-out .ensures) ∙ flip (c .if2 .taken)) in
-    sym (layout-bad (a .words .now) (a .count) (at .loop .i) inside (c .before .before .before .if1 .left) bad) ∙ at .loop .inv .1
+    let bad = broken (a .words .now) (at .loop .i) inside (sym (c .before .laid-out .ensures) ∙ not-true _ (c .if2 .taken)) in
+    sym (onward-bad (a .words .now) (a .count) (at .loop .i) inside (c .before .before .before .if1 .left) bad) ∙ at .loop .inv .1
 
 slice-aggregate-agrees : tie.Need-slice-aggregate-agrees Inv-loop μ-loop
 slice-aggregate-agrees c = search needs
@@ -63,11 +59,12 @@ returns-3 c =
     let at = c .before .before .before .before .before .before .before .before .before in
     let a = at .before .before .args in
     let inside = c .before .before .before .before .before .before .before .before .loop-test .taken in
-    let laid = sym (c .before .before .before .before .before .laid-out .ensures) ∙ flip (c .before .before .before .before .if2 .left) in
-    let differs = sym (c .before .before .agrees .ensures .0) ∙ flip (c .if3 .taken) in
+    let else = c .before .before .before .before in
+    let laid = sym (else .before .laid-out .ensures) ∙ not-false _ (else .if2 .left) in
+    let differs = sym (c .before .before .agrees .ensures .0) ∙ not-true _ (c .if3 .taken) in
     let bad = decides (a .words .now) (at .loop .i) inside (at .loop .inv .2) laid differs in
     let given = c .before .before .before .before .before .before .before .if1 .left in
-    sym (layout-bad (a .words .now) (a .count) (at .loop .i) inside given bad) ∙ at .loop .inv .1
+    sym (onward-bad (a .words .now) (a .count) (at .loop .i) inside given bad) ∙ at .loop .inv .1
 
 add-i : tie.Need-add-i Inv-loop μ-loop
 add-i c = omega arith
@@ -80,12 +77,13 @@ loop-again c =
     let at = c .before .before .before .before .before .before .before .before .before in
     let a = at .before .before .args in
     let inside = c .before .before .before .before .before .before .before .before .loop-test .taken in
-    let laid = sym (c .before .before .before .before .before .laid-out .ensures) ∙ flip (c .before .before .before .before .if2 .left) in
-    let agreed = sym (c .before .before .agrees .ensures .0) ∙ flip (c .if3 .left) in
+    let else = c .before .before .before .before in
+    let laid = sym (else .before .laid-out .ensures) ∙ not-false _ (else .if2 .left) in
+    let agreed = sym (c .before .before .agrees .ensures .0) ∙ not-false _ (c .if3 .left) in
     let good = decides (a .words .now) (at .loop .i) inside (at .loop .inv .2) laid agreed in
     let given = c .before .before .before .before .before .before .before .if1 .left in (
       omega arith,
-      sym (layout-good (a .words .now) (a .count) (at .loop .i) inside given good) ∙ at .loop .inv .1,
+      sym (onward-good (a .words .now) (a .count) (at .loop .i) inside given good) ∙ at .loop .inv .1,
       subst (λ (m : List ℕ). Noted m (take (at .loop .i + 1) (a .words .now))) (sym (c .before .before .agrees .ensures .1))
           (goes-on (a .words .now) (at .loop .i) inside (at .loop .inv .2) laid agreed),
     )
@@ -95,7 +93,7 @@ unfolding placeOf
 returns-4 c =
     let at = c .before in
     let a = at .before .before .args in
-    sym (layout-ends (a .words .now) (a .count) (at .loop .i) (omega (arith, length-take (a .count) (a .words .now)))) ∙ at .loop .inv .1
+    sym (onward-ends (a .words .now) (a .count) (at .loop .i) (omega (arith, length-take (a .count) (a .words .now)))) ∙ at .loop .inv .1
 
 pub bad-word-spec : {M : Type 1} → statement M
 bad-word-spec =
