@@ -36,33 +36,41 @@ pub fn shape(w: usize) -> Shape {
     }
 }
 
-/// The layout of a word at an index.
-pub fn laid_out(before: usize, w: usize) -> bool {
+/// The layout of word w at index i.
+pub fn laid_out(i: usize, w: usize) -> bool {
     let (l, r) = (left_of(w), right_of(w));
     match kind_of(w) {
         0 | 1 => l == 0 && r == 0,
         2 | 6 | 7 => r == 0,
-        3 | 4 | 5 => l < before && r < before,
+        3 | 4 | 5 => l < i && r < i,
         _ => false,
     }
 }
 
-/// Two leaves of one symbol and two kinds.
-pub fn clash(v: Shape, w: Shape) -> bool {
-    match (v, w) {
-        (Leaf(j, s), Leaf(k, t)) => s == t && j != k,
-        _ => false,
+/// A leaf of symbol s under another kind than k.
+pub fn other_kind(k: usize, s: usize, shape: Shape) -> bool {
+    match shape {
+        Leaf(k2, s2) => s == s2 && k != k2,
+        Top | Bot | And(..) | Or(..) | Imp(..) => false,
     }
 }
 
-pub fn clashes(before: &[usize], w: usize) -> bool {
-    before.iter().any(|v| clash(shape(*v), shape(w)))
+pub fn stands_otherwise(k: usize, s: usize, before: &[usize]) -> bool {
+    before.iter().any(|v| other_kind(k, s, shape(*v)))
+}
+
+pub fn clashes(before: &[usize], shape: Shape) -> bool {
+    match shape {
+        Leaf(k, s) => stands_otherwise(k, s, before),
+        Top | Bot | And(..) | Or(..) | Imp(..) => false,
+    }
 }
 
 pub fn good_word(before: &[usize], w: usize) -> bool {
-    laid_out(before.len(), w) && !clashes(before, w)
+    laid_out(before.len(), w) && !clashes(before, shape(w))
 }
 
+/// Form.antt's badFrom is this search for the lowest.
 pub fn bad_word(ws: &[usize]) -> Option<usize> {
     (0..ws.len()).find(|i| !good_word(&ws[..*i], ws[*i]))
 }
