@@ -120,7 +120,7 @@ extern "C" {
 #define QUAYSAFFRON_STATUS_STACK_BYTES 131072
 #define QUAYSAFFRON_TEXT_STACK_BYTES 458752
 #define QUAYSAFFRON_OUTPUT_STACK_BYTES 655360
-#define QUAYSAFFRON_OTHER_STACK_BYTES 8192 /* the name and the two tests */
+#define QUAYSAFFRON_OTHER_STACK_BYTES 16384 /* the name and the two tests, that of words with a table of 4,096 bytes */
 /* A thread's whole stack, with which every call has slack. glibc puts a thread's own variables there too: where they are large, as under a
  * sanitizer, take as much more. */
 #define QUAYSAFFRON_STACK_BYTES 1048576
