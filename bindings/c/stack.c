@@ -5,7 +5,11 @@
  *
  * The stack of a search grows with its levels, that of a text with the nodes on a path, so each way to go up is taken to its limit.
  * A line for each call tells its maximum and the way that took it; a call that takes more than the header says fails, and a measure that
- * sees no byte. */
+ * sees no byte.
+ *
+ * The dynamic linker may bind memset and memcpy where they are first called, and takes stack for that. So each call is measured in a
+ * process of its own, at first before anything has called either. The ways up are measured afterwards, with both bound: they take no more
+ * in a first call, since none of the functions that go up calls either. */
 #define _POSIX_C_SOURCE 200809L
 
 #include "books.h"
@@ -14,6 +18,8 @@
 #include <stdio.h>
 #include <stdlib.h>
 #include <string.h>
+#include <sys/wait.h>
+#include <unistd.h>
 
 enum { STACK_BYTES = 4 << 20, ALIGNMENT = 4096, PATTERN = 0x5a };
 enum { LEVELS = QUAYSAFFRON_HIGHEST_LEVEL, PATH = QUAYSAFFRON_MOST_PATH, TEXT_BYTES = 1 << 20 };
@@ -28,12 +34,14 @@ static uint8_t *stack;
 static volatile uint8_t *frame;
 static int failed;
 
-/* A call, its largest measure so far, and what the header says. */
+/* A call with what the header says of it, what measures it, and its largest measure so far. */
 struct call {
     const char *name;
+    size_t told;
+    void *(*run)(void *);
+    void (*measure)(struct call *call);
     size_t bytes;
     const char *way;
-    size_t told;
 };
 
 /* The two halves of a measure, before and after the call. They stand in the frame that calls: one of their own would lie where the call's
@@ -73,9 +81,9 @@ static void run_alone(void *(*run)(void *))
 }
 
 /* Measures one way; a call that ends in another number than the way leads to fails, and so does one that was not seen. */
-static void measure(struct call *call, const char *way, void *(*run)(void *), size_t expected)
+static void measure(struct call *call, const char *way, size_t expected)
 {
-    run_alone(run);
+    run_alone(call->run);
     if (number != expected) {
         printf("%s, %s: number %zu, not %zu\n", call->name, way, number, expected);
         failed = 1;
@@ -257,14 +265,6 @@ static const struct way ways[] = {
 
 enum { WAYS = sizeof ways / sizeof ways[0] };
 
-/* A ForAll and an Exists that nothing uses, with symbols of their own: the test of words may keep what kind each symbol has, and may do so
- * only where there is more than one. */
-static void add_quantified(void)
-{
-    leaf(&book, QUAYSAFFRON_FOR_ALL, QUAYSAFFRON_LAST_SYMBOL - 1);
-    leaf(&book, QUAYSAFFRON_EXISTS, QUAYSAFFRON_LAST_SYMBOL - 2);
-}
-
 /* Lays the book of a way: what it supposes is an assumption, or else the left of an implication, which takes a level. */
 static void lay_way(const struct way *way, size_t symbol, bool assumed, size_t levels)
 {
@@ -278,23 +278,22 @@ static void lay_way(const struct way *way, size_t symbol, bool assumed, size_t l
         left = way->left(levels - 1, symbol);
         book.goal = join(&book, QUAYSAFFRON_IMPL, left, book.goal);
     }
-    add_quantified();
     memcpy(words, book.words, sizeof words);
     file_length = house_file(&book, file);
 }
 
 /* Each way up to the highest level; and one level more, which is refused once the stack is as deep as it gets. A status' second search of
  * a way that climbs is there already. */
-static void measure_levels(struct call *call, void *(*run)(void *), size_t symbol, bool assumed)
+static void measure_levels(struct call *call, size_t symbol, bool assumed)
 {
     for (size_t i = 0; i < WAYS; i++) {
         bool above = ways[i].climbs && QUAYSAFFRON_FIRST_FREE_SYMBOL <= symbol;
         lay_way(&ways[i], symbol, assumed, LEVELS);
-        measure(call, ways[i].name, run, above ? QUAYSAFFRON_LEVELS : 0);
+        measure(call, ways[i].name, above ? QUAYSAFFRON_LEVELS : 0);
     }
     for (size_t i = 0; i < WAYS; i++) {
         lay_way(&ways[i], symbol, assumed, LEVELS + 1);
-        measure(call, ways[i].name, run, QUAYSAFFRON_LEVELS);
+        measure(call, ways[i].name, QUAYSAFFRON_LEVELS);
     }
 }
 
@@ -339,7 +338,6 @@ static void start_term(void)
     memset(terms, 0, sizeof terms);
     nodes = 0;
     assume(&book, "x", atom(&book, QUAYSAFFRON_LAST_SYMBOL));
-    add_quantified();
     add_node(QUAYSAFFRON_IDENT, first);
 }
 
@@ -354,7 +352,7 @@ static void measure_terms(struct call *call)
             fields[children[i].field] = (uint16_t)(nodes - 1);
             add_node(children[i].kind, fields);
         }
-        measure(call, children[i].name, run_text, 0);
+        measure(call, children[i].name, 0);
     }
 }
 
@@ -373,7 +371,7 @@ static void measure_formulas(struct call *call, size_t kind, bool right, size_t 
         fields[0] = (uint16_t)(nodes - 1);
         add_node(QUAYSAFFRON_PROJECT_FST, fields);
     }
-    measure(call, right ? "an ascribed formula, right halves" : "an ascribed formula, left halves", run_text, 0);
+    measure(call, right ? "an ascribed formula, right halves" : "an ascribed formula, left halves", 0);
 }
 
 static void measure_text(struct call *call)
@@ -396,9 +394,8 @@ static void measure_applications(struct call *call)
     t = truth(&book);
     book.goal = atom(&book, 0);
     assume(&book, "x", chain(&book, QUAYSAFFRON_IMPL, t, PATH - 1, book.goal));
-    add_quantified();
     file_length = house_file(&book, file);
-    measure(call, "a text of Applications", run_output, 0);
+    measure(call, "a text of Applications", 0);
 }
 
 /* x : (q|q)->C with C = T->(..->(T->p)), y : q and the goal p: half a path of Applications, and q->C ascribed below them. */
@@ -413,49 +410,74 @@ static void measure_ascribed(struct call *call)
     deep = chain(&book, QUAYSAFFRON_IMPL, t, PATH / 2 - 4, book.goal);
     assume(&book, "x", join(&book, QUAYSAFFRON_IMPL, either, deep));
     assume(&book, "y", q);
-    add_quantified();
     file_length = house_file(&book, file);
-    measure(call, "a text with an ascribed formula", run_output, 0);
+    measure(call, "a text with an ascribed formula", 0);
 }
 
-/* A name that is refused clears its buffer. Where the dynamic linker binds memset when it is first called, that takes stack too, more than
- * the name does: so this is measured before anything here calls memset. */
+static void measure_prove(struct call *call)
+{
+    measure_levels(call, 0, true);
+}
+
+static void measure_status(struct call *call)
+{
+    measure_levels(call, 0, false);
+    measure_levels(call, QUAYSAFFRON_FIRST_FREE_SYMBOL, false);
+}
+
+static void measure_output(struct call *call)
+{
+    measure_levels(call, 0, true);
+    measure_applications(call);
+    measure_ascribed(call);
+}
+
+/* A name that is refused clears its buffer, here by the first call of memset. */
 static void measure_name(struct call *call)
 {
     name_index = QUAYSAFFRON_LAST_INDEX + 1;
-    measure(call, "an index that is too high, and memset for the first time", run_name, QUAYSAFFRON_NAMES);
-    measure(call, "an index that is too high", run_name, QUAYSAFFRON_NAMES);
+    measure(call, "an index that is too high", QUAYSAFFRON_NAMES);
     name_index = QUAYSAFFRON_LAST_INDEX;
-    measure(call, "the last index", run_name, 0);
+    measure(call, "the last index", 0);
 }
 
-/* A symbol under two kinds, which every call that tests words refuses. */
-static void measure_mixed(struct call *call, void *(*run)(void *))
+static void measure_test_words(struct call *call)
 {
     clear(&book);
-    book.goal = atom(&book, 0);
-    leaf(&book, QUAYSAFFRON_FOR_ALL, 0);
-    memcpy(words, book.words, sizeof words);
-    file_length = house_file(&book, file);
-    measure(call, "a symbol under two kinds", run, QUAYSAFFRON_BAD_FORMULA);
-}
-
-static void measure_tests(struct call *test_words, struct call *test_names)
-{
-    clear(&book);
-    for (size_t symbol = 0; symbol <= QUAYSAFFRON_LAST_SYMBOL; symbol++) {
+    for (size_t symbol = 0; symbol < QUAYSAFFRON_MOST_WORDS; symbol++) {
         leaf(&book, leaf_kinds[symbol % LEAF_KINDS], symbol);
     }
     memcpy(words, book.words, sizeof words);
-    measure(test_words, "16,384 leaves", run_test_words, 0);
+    measure(call, "16,384 leaves", 0);
+    words[QUAYSAFFRON_MOST_WORDS - 1] = quaysaffron_word(leaf_kinds[1], 0, 0);
+    measure(call, "16,384 leaves, the last under a second kind", QUAYSAFFRON_BAD_FORMULA);
     clear(&book);
     (void)chain(&book, QUAYSAFFRON_AND, falsity(&book), QUAYSAFFRON_MOST_WORDS - 1, 0);
     memcpy(words, book.words, sizeof words);
-    measure(test_words, "16,384 words", run_test_words, 0);
+    measure(call, "16,384 words", 0);
+}
+
+static void measure_test_names(struct call *call)
+{
+    clear(&book);
     for (size_t i = 0; i < QUAYSAFFRON_MOST_ASSUMPTIONS; i++) {
         assume_next(&book, 0);
     }
-    measure(test_names, "64 names", run_test_names, 0);
+    measure(call, "64 names", 0);
+}
+
+/* T as the one word, which is there already, and as the goal; its derivation; and a house file of it. Nothing here may call memset or
+ * memcpy, so the file is laid byte by byte. */
+static void lay_truth(void)
+{
+    static const uint8_t lone_truth[] = {1, 0, QUAYSAFFRON_TRUE, 0, 0, 0, 0, 0, 1, 0, 0, 0};
+    volatile uint8_t *at = file;
+    book.count = 1;
+    terms[0] = QUAYSAFFRON_UNIT;
+    nodes = 1;
+    for (file_length = 0; file_length < sizeof lone_truth; file_length++) {
+        at[file_length] = lone_truth[file_length];
+    }
 }
 
 static void tell(const struct call *call)
@@ -465,38 +487,42 @@ static void tell(const struct call *call)
     failed |= !within;
 }
 
+/* Measures a call in a process of its own, which tells of it; returns whether all went well. */
+static bool measure_apart(struct call *call)
+{
+    int status;
+    pid_t child = fork();
+    if (child == 0) {
+        lay_truth();
+        measure(call, "the first call of a process", 0);
+        call->measure(call);
+        tell(call);
+        exit(failed);
+    }
+    return 0 < child && waitpid(child, &status, 0) == child && WIFEXITED(status) && WEXITSTATUS(status) == 0;
+}
+
 int main(void)
 {
-    enum { PROVE, STATUS, TEXT, OUTPUT, NAME, TEST_WORDS, TEST_NAMES, CALLS };
-    struct call calls[CALLS] = {
-        {"prove", 0, "", QUAYSAFFRON_PROVE_STACK_BYTES},
-        {"status", 0, "", QUAYSAFFRON_STATUS_STACK_BYTES},
-        {"text", 0, "", QUAYSAFFRON_TEXT_STACK_BYTES},
-        {"output", 0, "", QUAYSAFFRON_OUTPUT_STACK_BYTES},
-        {"name", 0, "", QUAYSAFFRON_OTHER_STACK_BYTES},
-        {"test_words", 0, "", QUAYSAFFRON_OTHER_STACK_BYTES},
-        {"test_names", 0, "", QUAYSAFFRON_OTHER_STACK_BYTES},
+    struct call calls[] = {
+        {"prove", QUAYSAFFRON_PROVE_STACK_BYTES, run_prove, measure_prove, 0, ""},
+        {"status", QUAYSAFFRON_STATUS_STACK_BYTES, run_status, measure_status, 0, ""},
+        {"text", QUAYSAFFRON_TEXT_STACK_BYTES, run_text, measure_text, 0, ""},
+        {"output", QUAYSAFFRON_OUTPUT_STACK_BYTES, run_output, measure_output, 0, ""},
+        {"name", QUAYSAFFRON_OTHER_STACK_BYTES, run_name, measure_name, 0, ""},
+        {"test_words", QUAYSAFFRON_OTHER_STACK_BYTES, run_test_words, measure_test_words, 0, ""},
+        {"test_names", QUAYSAFFRON_OTHER_STACK_BYTES, run_test_names, measure_test_names, 0, ""},
     };
+    int result = 0;
     if (posix_memalign((void **)&stack, ALIGNMENT, STACK_BYTES) != 0) {
         fputs("no stack\n", stderr);
         return 1;
     }
-    measure_name(&calls[NAME]);
-    measure_levels(&calls[PROVE], run_prove, 0, true);
-    measure_levels(&calls[STATUS], run_status, 0, false);
-    measure_levels(&calls[STATUS], run_status, QUAYSAFFRON_FIRST_FREE_SYMBOL, false);
-    measure_levels(&calls[OUTPUT], run_output, 0, true);
-    measure_text(&calls[TEXT]);
-    measure_applications(&calls[OUTPUT]);
-    measure_ascribed(&calls[OUTPUT]);
-    measure_mixed(&calls[PROVE], run_prove);
-    measure_mixed(&calls[STATUS], run_status);
-    measure_mixed(&calls[TEXT], run_text);
-    measure_mixed(&calls[OUTPUT], run_output);
-    measure_mixed(&calls[TEST_WORDS], run_test_words);
-    measure_tests(&calls[TEST_WORDS], &calls[TEST_NAMES]);
-    for (size_t i = 0; i < CALLS; i++) {
-        tell(&calls[i]);
+    for (size_t i = 0; i < sizeof calls / sizeof calls[0]; i++) {
+        if (!measure_apart(&calls[i])) {
+            fprintf(stderr, "%s: failed\n", calls[i].name);
+            result = 1;
+        }
     }
-    return failed;
+    return result;
 }
