@@ -5,9 +5,9 @@
 
 const size_t leaf_kinds[LEAF_KINDS] = {QUAYSAFFRON_ATOM, QUAYSAFFRON_FOR_ALL, QUAYSAFFRON_EXISTS};
 
-void clear(struct book *book)
+struct book *clear(struct book *book)
 {
-    memset(book, 0, sizeof *book);
+    return memset(book, 0, sizeof *book);
 }
 
 size_t add(struct book *book, uint32_t word)

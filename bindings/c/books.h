@@ -20,8 +20,8 @@ struct book {
     size_t goal;
 };
 
-/* A book without words or assumptions. */
-void clear(struct book *book);
+/* Takes all words and assumptions out of a book, and returns it. */
+struct book *clear(struct book *book);
 
 /* A word as it is. A book that is full keeps its words and returns an index that no book has. */
 size_t add(struct book *book, uint32_t word);

@@ -6,8 +6,13 @@
 
 #include <stdbool.h>
 
-/* A byte of junk, the numbers of a node, and one assumption more than a call takes. */
-enum { JUNK_BYTE = 0xa5, NODE = QUAYSAFFRON_NODE_NUMBERS, TOO_MANY_ASSUMPTIONS = QUAYSAFFRON_MOST_ASSUMPTIONS + 1 };
+/* A byte of junk, the numbers of a node, how many symbols there are, and one assumption more than a call takes. */
+enum {
+    JUNK_BYTE = 0xa5,
+    NODE = QUAYSAFFRON_NODE_NUMBERS,
+    SYMBOLS = QUAYSAFFRON_LAST_SYMBOL + 1,
+    TOO_MANY_ASSUMPTIONS = QUAYSAFFRON_MOST_ASSUMPTIONS + 1
+};
 
 /* What a search is lent; a status leaves out the assumptions and the names. */
 struct search {

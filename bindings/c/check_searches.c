@@ -3,16 +3,8 @@
 
 #include <string.h>
 
-/* Who is asked: the search, the status, or both. */
-enum { PROVE = 1, STATUS_ALONE, STATUS_TOO };
-
-/* What must come back. */
-struct expected {
-    size_t kind;
-    size_t number;
-    size_t place;
-    size_t steps;
-};
+/* Who is asked: the search alone, or the status too. */
+enum { PROVE = 1, STATUS_TOO };
 
 static const uint8_t junks[] = {0, 0x01, JUNK_BYTE, 0xff};
 
@@ -21,20 +13,13 @@ enum { JUNKS = sizeof junks };
 /* What is lent beyond the book: few nodes, but for the claims that come to the limits of records and of levels. */
 enum { SPARE_WORDS = 64, SPARE_NODES = 64, RECORDS_NODES = 1024, LEVELS_NODES = 128 };
 
-static struct book *start(struct checks *checks)
-{
-    clear(&checks->book);
-    return &checks->book;
-}
-
-/* What the book needs and some more. */
-static struct search ample(struct checks *checks)
+struct search ample(struct checks *checks)
 {
     struct slices *room = &checks->room.lent;
     struct book *book = &checks->book;
     struct search lent = {0};
     lent.words = room->words;
-    lent.words_length = book->count + SPARE_WORDS;
+    lent.words_length = book->count + SPARE_WORDS < QUAYSAFFRON_MOST_WORDS ? book->count + SPARE_WORDS : QUAYSAFFRON_MOST_WORDS;
     lent.count = book->count;
     lent.assumed = book->assumed;
     lent.assumed_length = book->assumptions;
@@ -56,13 +41,10 @@ static bool as_expected(const quaysaffron_answer *answer, struct expected expect
         && (verdict || answer->steps == expected.steps);
 }
 
-/* Asks over slices that are full of junk behind the book's words. */
-static quaysaffron_answer ask_over(struct checks *checks, const struct search *lent, uint8_t junk, int who, bool *kept)
+void lay_book(struct checks *checks, uint8_t junk)
 {
-    struct room *room = &checks->room;
-    fill(room, junk);
-    memcpy(room->lent.words, checks->book.words, checks->book.count * sizeof(uint32_t));
-    return who == PROVE ? room_prove(room, lent, kept) : room_status(room, lent, kept);
+    fill(&checks->room, junk);
+    memcpy(checks->room.lent.words, checks->book.words, checks->book.count * sizeof(uint32_t));
 }
 
 /* What the status says of a book without free symbols where the search says this. */
@@ -76,24 +58,26 @@ static struct expected settled(struct expected expected)
     return expected;
 }
 
-static void expect_of(struct checks *checks, int who, const struct search *lent, const char *what, struct expected expected)
+void expect_answer(struct checks *checks, room_search *ask, const struct search *lent, const char *what, struct expected expected)
 {
     for (size_t i = 0; i < JUNKS; i++) {
         bool kept;
-        quaysaffron_answer answer = ask_over(checks, lent, junks[i], who, &kept);
+        quaysaffron_answer answer;
+        lay_book(checks, junks[i]);
+        answer = ask(&checks->room, lent, &kept);
         check(checks, kept && as_expected(&answer, expected), what);
     }
 }
 
 static void expect(struct checks *checks, int who, const struct search *lent, const char *what, struct expected expected)
 {
-    expect_of(checks, PROVE, lent, what, expected);
+    expect_answer(checks, room_prove, lent, what, expected);
     if (who == STATUS_TOO) {
-        expect_of(checks, STATUS_ALONE, lent, what, settled(expected));
+        expect_answer(checks, room_status, lent, what, settled(expected));
     }
 }
 
-static struct expected refused(size_t number, size_t place)
+struct expected refused(size_t number, size_t place)
 {
     struct expected expected = {QUAYSAFFRON_REFUSED, number, place, 0};
     return expected;
@@ -105,13 +89,13 @@ static struct expected lacking(size_t number, size_t steps)
     return expected;
 }
 
-static struct expected proved(size_t steps)
+struct expected proved(size_t steps)
 {
     struct expected expected = {QUAYSAFFRON_PROVED, 0, 0, steps};
     return expected;
 }
 
-static struct expected unprovable(size_t steps)
+struct expected unprovable(size_t steps)
 {
     struct expected expected = {QUAYSAFFRON_UNPROVABLE, 0, 0, steps};
     return expected;
@@ -120,7 +104,7 @@ static struct expected unprovable(size_t steps)
 /* p0->p0: 5 steps, a name, 2 nodes. */
 static void lay_identity(struct checks *checks)
 {
-    struct book *book = start(checks);
+    struct book *book = clear(&checks->book);
     size_t p = atom(book, 0);
     book->goal = join(book, QUAYSAFFRON_IMPL, p, p);
 }
@@ -185,7 +169,7 @@ static void lengths_of_work(struct checks *checks)
 static void nothing_lent(struct checks *checks)
 {
     struct search lent = {0};
-    start(checks);
+    clear(&checks->book);
     lent.words = QUAYSAFFRON_EMPTY(uint32_t);
     lent.assumed = QUAYSAFFRON_EMPTY(uint16_t);
     lent.names = QUAYSAFFRON_EMPTY(uint8_t);
@@ -201,7 +185,7 @@ static void nothing_lent(struct checks *checks)
 /* p0, a word that breaks the layout and another one; words behind the count may. */
 static void wrong_word(struct checks *checks, uint32_t word)
 {
-    struct book *book = start(checks);
+    struct book *book = clear(&checks->book);
     struct search lent;
     atom(book, 0);
     add(book, word);
@@ -226,14 +210,15 @@ static void words(struct checks *checks)
     for (uint32_t kind = QUAYSAFFRON_EXISTS + 1; kind <= QUAYSAFFRON_NO_WORD; kind++) {
         wrong_word(checks, kind);
     }
-    start(checks)->goal = join(&checks->book, QUAYSAFFRON_AND, 0, 0);
+    clear(&checks->book);
+    checks->book.goal = join(&checks->book, QUAYSAFFRON_AND, 0, 0);
     lent = ample(checks);
     expect(checks, STATUS_TOO, &lent, "2: a word that is its own part", refused(QUAYSAFFRON_BAD_FORMULA, 0));
 }
 
 static void assumptions(struct checks *checks)
 {
-    struct book *book = start(checks);
+    struct book *book = clear(&checks->book);
     struct search lent;
     book->goal = atom(book, 0);
     assume_next(book, 0);
@@ -280,7 +265,7 @@ static const struct names wrong_names[] = {
 
 static void names(struct checks *checks)
 {
-    struct book *book = start(checks);
+    struct book *book = clear(&checks->book);
     struct search lent;
     book->goal = atom(book, 0);
     lent = ample(checks);
@@ -332,7 +317,7 @@ static void steps_and_terms(struct checks *checks)
 static void generated_names(struct checks *checks)
 {
     for (size_t more = 0; more < 2; more++) {
-        struct book *book = start(checks);
+        struct book *book = clear(&checks->book);
         size_t p = atom(book, 0);
         size_t tried = join(book, QUAYSAFFRON_IMPL, p, atom(book, 1));
         struct search lent;
@@ -349,7 +334,7 @@ static void generated_names(struct checks *checks)
 /* ((p0&p1)->p2)->p2 makes 2 words. */
 static void formulas(struct checks *checks)
 {
-    struct book *book = start(checks);
+    struct book *book = clear(&checks->book);
     size_t p = atom(book, 0);
     size_t both = join(book, QUAYSAFFRON_AND, p, atom(book, 1));
     size_t q = atom(book, 2);
@@ -367,7 +352,7 @@ static void formulas(struct checks *checks)
 static void contexts_and_levels(struct checks *checks)
 {
     for (size_t more = 0; more < 2; more++) {
-        struct book *book = start(checks);
+        struct book *book = clear(&checks->book);
         size_t all = balanced(book, QUAYSAFFRON_AND, 0, QUAYSAFFRON_MOST_RECORDS + more);
         struct search lent;
         book->goal = join(book, QUAYSAFFRON_IMPL, all, atom(book, QUAYSAFFRON_FIRST_FREE_SYMBOL - 1));
@@ -377,7 +362,7 @@ static void contexts_and_levels(struct checks *checks)
                more == 0 ? unprovable(515) : lacking(QUAYSAFFRON_CONTEXTS, 513));
     }
     for (size_t more = 0; more < 2; more++) {
-        struct book *book = start(checks);
+        struct book *book = clear(&checks->book);
         size_t p = atom(book, 0);
         struct search lent;
         book->goal = chain(book, QUAYSAFFRON_IMPL, p, QUAYSAFFRON_HIGHEST_LEVEL + more, p);
@@ -390,7 +375,7 @@ static void contexts_and_levels(struct checks *checks)
 /* p8192, or p8192&(p8192->F): only the second search of the status needs the two added words and nodes. */
 static struct search lay_open(struct checks *checks, bool both_ways)
 {
-    struct book *book = start(checks);
+    struct book *book = clear(&checks->book);
     size_t letter = atom(book, QUAYSAFFRON_FIRST_FREE_SYMBOL);
     book->goal = letter;
     if (both_ways) {
@@ -406,19 +391,19 @@ static void second_search(struct checks *checks, bool both_ways, size_t steps, s
     struct expected verdict = {both_ways ? QUAYSAFFRON_UNSOLVABLE : QUAYSAFFRON_UNKNOWN, 0, 0, 0};
     struct search lent = lay_open(checks, both_ways);
     for (lent.steps = 0; lent.steps < steps; lent.steps++) {
-        expect_of(checks, STATUS_ALONE, &lent, "6: too few steps for a status", lacking(QUAYSAFFRON_STEPS, lent.steps));
+        expect_answer(checks, room_status, &lent, "6: too few steps for a status", lacking(QUAYSAFFRON_STEPS, lent.steps));
     }
-    expect_of(checks, STATUS_ALONE, &lent, "as many steps as a status needs", verdict);
+    expect_answer(checks, room_status, &lent, "as many steps as a status needs", verdict);
     for (lent.words_length = lent.count; lent.words_length < lent.count + 2; lent.words_length++) {
-        expect_of(checks, STATUS_ALONE, &lent, "8: no room for the two words", lacking(QUAYSAFFRON_FORMULAS, 0));
+        expect_answer(checks, room_status, &lent, "8: no room for the two words", lacking(QUAYSAFFRON_FORMULAS, 0));
     }
-    expect_of(checks, STATUS_ALONE, &lent, "room for the two words", verdict);
+    expect_answer(checks, room_status, &lent, "room for the two words", verdict);
     for (size_t few = 0; few < nodes; few++) {
         lent.terms_length = few * NODE;
-        expect_of(checks, STATUS_ALONE, &lent, "9: too few nodes for a status", lacking(QUAYSAFFRON_TERMS, at_nodes[few]));
+        expect_answer(checks, room_status, &lent, "9: too few nodes for a status", lacking(QUAYSAFFRON_TERMS, at_nodes[few]));
     }
     lent.terms_length = nodes * NODE;
-    expect_of(checks, STATUS_ALONE, &lent, "as many nodes as a status needs", verdict);
+    expect_answer(checks, room_status, &lent, "as many nodes as a status needs", verdict);
 }
 
 static void second_searches(struct checks *checks)

@@ -155,21 +155,17 @@ static void names_alone(struct checks *checks)
     }
 }
 
-/* One of the two tests, over the front of what is lent. */
-typedef size_t test_call(const struct slices *lent, size_t length, size_t count, size_t *place);
-
-static size_t of_words(const struct slices *lent, size_t length, size_t count, size_t *place)
+size_t of_words(const struct slices *lent, size_t length, size_t count, size_t *place)
 {
     return quaysaffron_test_words(length == 0 ? QUAYSAFFRON_EMPTY(uint32_t) : lent->words, length, count, place);
 }
 
-static size_t of_names(const struct slices *lent, size_t length, size_t names, size_t *place)
+size_t of_names(const struct slices *lent, size_t length, size_t names, size_t *place)
 {
     return quaysaffron_test_names(length == 0 ? QUAYSAFFRON_EMPTY(uint8_t) : lent->text, length, names, place);
 }
 
-/* Asks a test, which changes nothing. */
-static void expect_test(struct checks *checks, test_call *test, size_t length, size_t count, const char *what, size_t number, size_t place)
+void expect_test(struct checks *checks, test_call *test, size_t length, size_t count, const char *what, size_t number, size_t place)
 {
     struct room *room = &checks->room;
     size_t at = JUNK_BYTE, returned;
@@ -181,8 +177,12 @@ static void expect_test(struct checks *checks, test_call *test, size_t length, s
 /* A word that is lawful behind another one; the leaves have symbols of their own. */
 static uint32_t word_of_kind(size_t kind)
 {
-    bool is_leaf = kind == QUAYSAFFRON_ATOM || kind == QUAYSAFFRON_FOR_ALL || kind == QUAYSAFFRON_EXISTS;
-    return quaysaffron_word(kind, is_leaf ? kind : 0, 0);
+    for (size_t i = 0; i < LEAF_KINDS; i++) {
+        if (kind == leaf_kinds[i]) {
+            return quaysaffron_word(kind, i, 0);
+        }
+    }
+    return quaysaffron_word(kind, 0, 0);
 }
 
 static void test_words(struct checks *checks)

@@ -29,8 +29,8 @@ struct room {
 void fill(struct room *room, uint8_t junk);
 
 /* The calls over what is lent of a room; `kept` tells whether the answer and every byte of the room are as the header says. */
-quaysaffron_answer room_prove(struct room *room, const struct search *lent, bool *kept);
-quaysaffron_answer room_status(struct room *room, const struct search *lent, bool *kept);
+typedef quaysaffron_answer room_search(struct room *room, const struct search *lent, bool *kept);
+room_search room_prove, room_status;
 struct written room_text(struct room *room, const struct draft *lent, bool *kept);
 struct written room_name(struct room *room, size_t index, size_t name_length, bool *kept);
 size_t room_output(struct room *room, const uint8_t *file, size_t file_length, bool *kept);

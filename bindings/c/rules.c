@@ -11,12 +11,12 @@ static struct refusal refused(size_t number, size_t place)
     return refusal;
 }
 
-static size_t kind_of(uint32_t word)
+size_t kind_of(uint32_t word)
 {
     return word & KIND_BITS;
 }
 
-static size_t left_of(uint32_t word)
+size_t left_of(uint32_t word)
 {
     return word >> QUAYSAFFRON_LEFT_SHIFT & QUAYSAFFRON_LAST_SYMBOL;
 }
@@ -40,8 +40,6 @@ static bool good_layout(uint32_t word, size_t index)
         return false;
     }
 }
-
-enum { SYMBOLS = QUAYSAFFRON_LAST_SYMBOL + 1 };
 
 /* Whether a word gives no symbol a second kind. Kinds has that of each symbol's leaves so far, and 0, which no leaf has, of the others. */
 static bool keeps_kinds(uint32_t word, uint8_t kinds[SYMBOLS])

@@ -10,6 +10,10 @@ struct refusal {
     size_t place;
 };
 
+/* The kind of a word, and its left field. */
+size_t kind_of(uint32_t word);
+size_t left_of(uint32_t word);
+
 /* What the five fields of a kind of node hold: n a name, t a term, f a formula, 0 nothing. NULL where there is no such kind. */
 const char *fields_of(size_t kind);
 
