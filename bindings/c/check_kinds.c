@@ -157,6 +157,26 @@ static void apart(struct checks *checks)
     expect_pass(checks, "symbols that differ in one bit");
 }
 
+/* The library keeps the kinds of four symbols in a byte, those that differ in their two top bits alone. Here they have kinds by turns, and
+ * then any of them stands once more under each other kind. */
+static void sharing(struct checks *checks)
+{
+    enum { SHARED = 4, APART = SYMBOLS / SHARED };
+    for (size_t turn = 0; turn < LEAF_KINDS; turn++) {
+        struct book *book = clear(&checks->book);
+        for (size_t i = 0; i < SHARED; i++) {
+            leaf(book, leaf_kinds[(turn + i) % LEAF_KINDS], SYMBOL + APART * i);
+        }
+        expect_pass(checks, "symbols that share a byte");
+        for (size_t i = 0; i < SHARED * (LEAF_KINDS - 1); i++) {
+            size_t again = i % SHARED, other = turn + again + 1 + i / SHARED;
+            book->count = SHARED;
+            leaf(book, leaf_kinds[other % LEAF_KINDS], SYMBOL + APART * again);
+            expect_refusal(checks, "2: a second kind among symbols that share a byte", SHARED);
+        }
+    }
+}
+
 /* Every symbol as an atom, and a quantified one in the place of the last. */
 static void all_symbols(struct checks *checks)
 {
@@ -195,6 +215,7 @@ void check_kinds(struct checks *checks)
     pairs(checks);
     lowest(checks);
     apart(checks);
+    sharing(checks);
     all_symbols(checks);
     rows(checks);
 }
