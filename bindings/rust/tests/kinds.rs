@@ -3,9 +3,9 @@
 mod common;
 
 use common::slices::{refused, Lent, JUNK};
+use common::LEAVES;
 use quaysaffron::raw::{self, Answer, Tested, Written};
 
-const KINDS: [usize; 3] = [raw::ATOM, raw::FOR_ALL, raw::EXISTS];
 const SYMBOLS: usize = raw::LAST_SYMBOL as usize + 1;
 const TRUE: u32 = raw::word(raw::TRUE, 0, 0);
 const P5: u32 = leaf(raw::ATOM, 5);
@@ -24,8 +24,8 @@ const fn leaf(kind: usize, symbol: usize) -> u32 {
 
 /// Each two kinds, in both orders.
 fn pairs() -> impl Iterator<Item = (usize, usize)> {
-    let pair = |first| KINDS.map(|second| (first, second));
-    KINDS
+    let pair = |first| LEAVES.map(|second| (first, second));
+    LEAVES
         .into_iter()
         .flat_map(pair)
         .filter(|(first, second)| first != second)
@@ -97,6 +97,17 @@ fn every_call_refuses(words: &[u32], place: usize) {
     assert!(out[line.len()..].iter().all(|byte| *byte == 0));
 }
 
+/// What every call tells of words that pass.
+fn every_call_takes(words: &[u32]) {
+    assert_eq!(raw::test_words(words, words.len()), at(None));
+    let (written, unchanged) = written(words);
+    assert_eq!((written.number, written.size, unchanged), (0, 1, false));
+    for goal in 0..words.len() {
+        assert_eq!(searched(words, words.len(), goal).0.number, 0);
+        assert_eq!(asked(words, goal).0.number, 0);
+    }
+}
+
 #[test]
 fn two_kinds_in_both_orders() {
     assert_eq!(pairs().count(), 6);
@@ -135,13 +146,7 @@ fn words_that_pass() {
     let fields = [P5, AND, leaf(raw::FOR_ALL, 0), leaf(raw::EXISTS, 1)];
     let others = [P5, leaf(raw::FOR_ALL, 6), leaf(raw::EXISTS, 4), P5];
     for words in [&[P5, P5][..], &[U5, U5], &[E5, E5], &fields, &others] {
-        assert_eq!(raw::test_words(words, words.len()), at(None));
-        let (written, unchanged) = written(words);
-        assert_eq!((written.number, written.size, unchanged), (0, 1, false));
-        for goal in 0..words.len() {
-            assert_eq!(searched(words, words.len(), goal).0.number, 0);
-            assert_eq!(asked(words, goal).0.number, 0);
-        }
+        every_call_takes(words);
     }
 }
 

@@ -2,18 +2,17 @@
 //! and words are refused where row 2, worked out once more, refuses them.
 mod common;
 
-use common::{lines, Random};
+use common::{lines, Random, LEAVES};
 use quaysaffron::{output, raw, Book, Claim, Limits, Outcome, Prover, Refusal, Status};
 
 const BOOKS: usize = 10_000;
 
-/// The kinds of leaves.
-const LEAVES: [usize; 3] = [raw::ATOM, raw::FOR_ALL, raw::EXISTS];
-
-/// Kind, left and right of a word: 4 bits and two fields of 14.
+/// Kind, left and right of a word.
 fn fields(word: u32) -> (usize, usize, usize) {
     let word = word as usize;
-    (word % 16, word / 16 % 16384, word / 16 / 16384)
+    let below = |shift: usize| word % (1 << shift);
+    let left = below(raw::RIGHT_SHIFT) >> raw::LEFT_SHIFT;
+    (below(raw::LEFT_SHIFT), left, word >> raw::RIGHT_SHIFT)
 }
 
 /// Whether a word has the layout that its kind asks for at this index.

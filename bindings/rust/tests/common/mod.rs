@@ -4,8 +4,11 @@
 
 pub mod slices;
 
-use quaysaffron::{Book, Claim, Formula, Outcome, Refusal};
+use quaysaffron::{raw, Book, Claim, Formula, Outcome, Refusal};
 use std::path::PathBuf;
+
+/// The kinds of leaves.
+pub const LEAVES: [usize; 3] = [raw::ATOM, raw::FOR_ALL, raw::EXISTS];
 
 /// Named assumptions, each as the house text of its formula.
 pub type Assumed<'t> = &'t [(&'t str, &'t str)];
