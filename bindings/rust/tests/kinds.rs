@@ -15,6 +15,8 @@ const E5: u32 = leaf(raw::EXISTS, 5);
 const AND: u32 = raw::word(raw::AND, 0, 0);
 /// The node of assumption 0.
 const IDENT: [u16; raw::NODE_NUMBERS] = [raw::IDENT, 0, 0, 0, 0, 0];
+/// The library keeps the kinds of four symbols in a byte, those that differ in their two top bits alone.
+const SHARING: [usize; 4] = [5, 4101, 8197, 12293];
 /// More than any search here takes.
 const STEPS: usize = 100;
 
@@ -163,6 +165,26 @@ fn symbols_that_differ_in_one_bit() {
             words.push(leaf(first, 1 << bit));
             assert_eq!(raw::test_words(&words, count + 1), at(Some(count)));
             words.pop();
+        }
+    }
+}
+
+/// Under kinds by turns they pass; any of them is refused once more under another.
+#[test]
+fn symbols_that_share_a_byte() {
+    let word = |turn: usize, symbol| leaf(LEAVES[turn % LEAVES.len()], symbol);
+    for turn in 0..LEAVES.len() {
+        let symbols = (turn..).zip(SHARING);
+        let words: Vec<u32> = symbols
+            .clone()
+            .map(|(at, symbol)| word(at, symbol))
+            .collect();
+        every_call_takes(&words);
+        for (at, symbol) in symbols {
+            for later in 1..LEAVES.len() {
+                let mixed = [&words[..], &[word(at + later, symbol)]].concat();
+                every_call_refuses(&mixed, words.len());
+            }
         }
     }
 }
