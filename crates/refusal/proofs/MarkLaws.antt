@@ -1,6 +1,6 @@
 -- What a table of marks says after a mark was put into it, and how a word is held against it. Assumes nothing.
-use Prim.Native.Nat.{ℕ, _+_, _*_, _/_, _%_, _^_, _<_}
-use mathlib.Core.Path.{_≡_}
+use Prim.Native.Nat.{ℕ, _+_, _-_, _*_, _%_, _^_, _<_}
+use mathlib.Core.Path.{_≡_, sym, subst}
 use mathlib.Core.Bool.{Bool, true, false}
 use mathlib.Core.Logic.{_≢_}
 use mathlib.Core.List.{List}
@@ -24,9 +24,6 @@ mark-small k = go (eqb k 2) (eqb k 6)
     go false false = omega arith
 
 module _ (ms : List ℕ) (s k : ℕ) (h : s < 16384) (free : markAt ms s ≡ 0) where
-  place : s / 4096 < 4
-  place = omega arith
-
   -- a mark that is shifted to its place loses no bit
   shifted : markOf k * 2 ^ shiftOf s % 2 ^ 8 ≡ markOf k * 2 ^ shiftOf s
   shifted = shl-exact 2 (shiftOf s) 8 (mark-small k) (omega arith)
@@ -34,7 +31,11 @@ module _ (ms : List ℕ) (s k : ℕ) (h : s < 16384) (free : markAt ms s ≡ 0) 
   -- so the sum that puts it is a byte
   pub sum-fits : getD ms (byteOf s) 0 < 256 → getD ms (byteOf s) 0 + markOf k * 2 ^ shiftOf s % 2 ^ 8 < 256
   unfolding markAt
-  sum-fits b = rw shifted (put-fits (getD ms (byteOf s) 0) (markOf k) (mark-small k) (s / 4096) place b free)
+  sum-fits b =
+      let byte : ℕ = getD ms (byteOf s) 0 in
+      let width : shiftOf s + (2 + (6 - shiftOf s)) ≡ 8 = omega arith in
+      let fits = put-fits byte (markOf k) (mark-small k) (shiftOf s) free (6 - shiftOf s) (subst (λ (w : ℕ). byte < 2 ^ w) (sym width) b) in
+      rw shifted (subst (λ (w : ℕ). byte + markOf k * 2 ^ shiftOf s < 2 ^ w) width fits)
 
   pub sum-is : set ms (byteOf s) (getD ms (byteOf s) 0 + markOf k * 2 ^ shiftOf s % 2 ^ 8) ≡ marked ms s (markOf k)
   unfolding marked

@@ -1,10 +1,11 @@
 -- A table of marks after the words before a word: it tells under which kinds a symbol may still stand. Assumes nothing.
-use Prim.Native.Nat.{ℕ, _+_, _*_, _/_, _^_, _<_}
+use Prim.Native.Nat.{ℕ, _+_, _*_, _^_, _≤_, _<_}
 use mathlib.Core.Path.{_≡_, refl, sym, ap, ap₂, _∙_, subst}
 use mathlib.Core.Bool.{Bool, true, false, not, _&&_, _||_, or-false, or-self, or-assoc, Bool·not-not}
-use mathlib.Core.Logic.{_≢_}
+use mathlib.Core.Logic.{_≢_, _⊎_, inl, inr}
 use mathlib.Core.List.{List, [], _∷_, _++_}
 use native.Mathlib.Omega.{arith}
+use native.Mathlib.Decide.{decLt}
 use native.Mathlib.Nat.{zero-div}
 use native.Mathlib.Numerals.{add-one}
 use borrow.Author.Tests.{eqb-true, eqb-false}
@@ -30,14 +31,17 @@ module _ (ms : List ℕ) (s m : ℕ) (long : length ms ≡ 4096) (h : s < 16384)
   unfolding markAt marked put
   mark-put =
       rw (getD-set-same ms (byteOf s) put 0 (omega arith))
-      (put-here (getD ms (byteOf s) 0) m small (s / 4096) (omega arith) free)
+      (put-here (getD ms (byteOf s) 0) m small (shiftOf s) free)
 
   -- two symbols that share a byte stand at two places in it
   beside : (s′ : ℕ) → s′ < 16384 → s′ ≢ s → byteOf s′ ≡ byteOf s → bitsAt (shiftOf s′) put ≡ bitsAt (shiftOf s′) (getD ms (byteOf s) 0)
   unfolding markAt put
-  beside s′ h′ n e =
-      put-beside (getD ms (byteOf s) 0) m small (s / 4096) (s′ / 4096) (omega arith) (omega arith)
-      (λ q. n (omega (arith, q, e))) free
+  beside s′ h′ n e = put-beside (getD ms (byteOf s) 0) m small (shiftOf s) free (shiftOf s′) (go (decLt s s′) (decLt s′ s))
+    where
+      go : Dec (s < s′) → Dec (s′ < s) → (shiftOf s + 2 ≤ shiftOf s′) ⊎ (shiftOf s′ + 2 ≤ shiftOf s)
+      go (yes l) d = inl (omega arith)
+      go (no l) (yes l′) = inr (omega arith)
+      go (no l) (no l′) = absurd (n (omega arith))
 
   pub mark-kept : (s′ : ℕ) → s′ < 16384 → s′ ≢ s → markAt (marked ms s m) s′ ≡ markAt ms s′
   unfolding markAt marked put
