@@ -103,9 +103,9 @@ module _ (x : Claim) (w : List Rec) (passed : refusal x ≡ none) (whole : lengt
     seats = record {
       level_in = omega arith;
       fits = omega arith;
-      goal_in_lem = omega (arith, p.goal, p.book);
-      unordered_in_lem = λ i h. absurd (omega arith);
-      ordered_in_lem = λ i h. absurd (omega arith);
+      goal_in = omega (arith, p.goal, p.book);
+      unordered_inside = λ i h. absurd (omega arith);
+      ordered_inside = λ i h. absurd (omega arith);
       unordered_is = refl;
       ordered_is = refl;
     };

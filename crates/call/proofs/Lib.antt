@@ -1,4 +1,3 @@
-pub mod Generated
 pub mod Refusals
 pub mod Seating
 pub mod Given

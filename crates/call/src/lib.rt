@@ -1,3 +1,4 @@
+#![tactic(auto)]
 // All of the one public call but its search: the refusals 1 to 5, the limits, the assumptions' Idents and the first sequent, and at the
 // end the clears and the numbers that come back. What is `pub` here is for the public call: a `requires` is what it shows before it calls.
 ghost use Rattle.std.specs.Prelude.{◌≡◌, ◌&&◌, ◌≤◌, length, take, replicate};
@@ -16,7 +17,7 @@ use meter::{Answer, Limits, Sequent};
 use refusal::{Levels, Place, Tested};
 
 // What comes back (document 01, "Numbers that come back").
-#[derive(Drop)]
+#[derive(Clone, Copy)]
 pub enum Outcome {
     // a derivation was found: its root, and what the search has used and left
     Proved {

@@ -1,3 +1,4 @@
+#![tactic(auto)]
 // The work area of the search: a stretch of records a level, the unordered context from its front, the ordered one from its back, the
 // last record lowest; and the small moves on sequents. Every element of the work area is read and written here alone.
 // What is `pub` here is for the search's own crates: a `requires` is what their code shows before it calls.
@@ -10,7 +11,7 @@ use meter::Sequent;
 
 // A record of the two contexts: a formula's index and a term's, in this order for any language that lends them.
 #[repr(C)]
-#[derive(Drop)]
+#[derive(Clone, Copy)]
 pub struct Record {
     pub formula: u16,
     pub term: u16,

@@ -1,3 +1,4 @@
+#![tactic(auto)]
 // Formula words (document 01): total reads and stores, the fields by shifts and masks, leaves, and the layout of a word.
 ghost use Rattle.std.specs.Prelude.{◌≡◌, ◌%◌, length, get_or, set, take};
 ghost use Rattle.theory.specs.Form.{kind_of, left_of, right_of, pack, good_fields, laid_out};

@@ -1,4 +1,3 @@
-pub mod Generated
 pub mod Lines
 pub mod Filled
 pub mod Whole

@@ -1,3 +1,4 @@
+#![tactic(auto)]
 // One house file, from its bytes to the bytes that the program prints for it.
 ghost use Rattle.std.specs.Prelude.{◌≡◌, ◌≤◌, length, replicate};
 ghost use Rattle.std.proofs.Math.Option.{some};

@@ -1,3 +1,4 @@
+#![tactic(auto)]
 // The lines that the program prints for one answer, laid from the front of a lent buffer, with zeros behind them. The three public
 // functions are for `house_file`: they require numbers of at most seven digits and room for their lines, which it shows.
 ghost use Rattle.std.specs.Prelude.{◌≡◌, ◌≤◌, length};

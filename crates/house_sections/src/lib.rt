@@ -1,3 +1,4 @@
+#![tactic(auto)]
 // The sections of a house file: the whole file is tested before anything is written, then each section is copied into a lent array.
 // The copies are for `house_file`: they require a file that passed the test and room for the section, which it shows.
 ghost use Rattle.std.specs.Prelude.{◌+◌, ◌*◌, ◌^◌, ◌≤◌, ◌<◌, ◌≡◌, length, take, drop};
@@ -29,7 +30,7 @@ fn number_at(file: &[u8], at: usize, width: usize) -> usize
 }
 
 // Where the assumptions end: behind the last name, or nowhere, since one is cut.
-#[derive(Drop)]
+#[derive(Clone, Copy)]
 pub enum End {
     // one is cut
     Cut,
@@ -60,7 +61,7 @@ fn entries_end(file: &[u8], from: usize, count: usize) -> End
 }
 
 // The goal of a file, where its last section holds one and nothing else.
-#[derive(Drop)]
+#[derive(Clone, Copy)]
 pub enum Goal {
     // there is another count, or other bytes
     Missing,
@@ -83,7 +84,7 @@ fn goal_at(file: &[u8], at: usize) -> Goal
 }
 
 // What a file holds: so many formulas from byte 2 on, so many assumptions behind them and their count, and the goal's index.
-#[derive(Drop)]
+#[derive(Clone, Copy)]
 pub enum Sections {
     // it is no house file
     BadFile,

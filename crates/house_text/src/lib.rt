@@ -1,3 +1,4 @@
+#![tactic(auto)]
 // The writer of the house text of a term: `(pair s t)`, `(fn a t)`, .., laid piece by piece into a lent buffer.
 ghost use Rattle.std.specs.Prelude.{◌≡◌, ◌&&◌, [], ◌∷◌, ◌++◌, ◌-◌, ◌/◌, ◌≤◌, ◌<◌, length, get_or, take, replicate};
 ghost use Rattle.std.proofs.Math.Option.{some};
@@ -147,7 +148,7 @@ fn lay_formula(buf: &mut [u8], at: usize, words: &[u32], i: usize, levels: usize
 }
 
 // A field of a node, number `place` of the nodes, behind a space.
-#[cycle(lay_field_lay_term)]
+#[cycle(laying)]
 fn lay_field(
     buf: &mut [u8],
     at: usize,
@@ -183,7 +184,7 @@ fn lay_field(
 
 // The term at node `i`, of which at most `levels` nodes may stand on a path. Its children have smaller indices. The tests let no kind pass
 // that is refused; the definition reads one as a Unit.
-#[cycle(lay_field_lay_term)]
+#[cycle(laying)]
 fn lay_term(
     buf: &mut [u8],
     at: usize,

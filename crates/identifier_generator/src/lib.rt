@@ -1,3 +1,4 @@
+#![tactic(auto)]
 // Generated names and the names of assumptions: `identifier_generator.rs` of the Rust, over lent bytes.
 ghost use Rattle.std.specs.Prelude.{◌/◌, ◌%◌, ◌^◌, ◌≤◌, ◌≡◌, length, get_or, replicate};
 ghost use Rattle.theory.specs.Names.{spell, same, among, skipped, fresh};
@@ -207,7 +208,7 @@ pub fn lawful(name: &[u8], earlier: &[u8]) -> bool
 }
 
 // Where an entry of a text stands: its bytes from `start` to `end`.
-#[derive(Drop)]
+#[derive(Clone, Copy)]
 pub enum Entry {
     // it is there
     Held { start: usize, end: usize },

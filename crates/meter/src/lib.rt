@@ -1,3 +1,4 @@
+#![tactic(auto)]
 // Limits, states, sequents and answers of the search, the small moves on states, and the test of a charge: theory's Meter in numbers.
 // What is `pub` here is for the search's own crates, and FORMULAS for the status: a `requires` is what their code shows before it calls.
 ghost use Rattle.std.specs.Prelude.{◌≡◌, ◌+◌, ◌≤◌, ◌<◌};
@@ -24,7 +25,7 @@ const CONTEXTS: usize = 10;
 const LEVELS: usize = 11;
 
 // What the search may use: steps, formula words, term nodes, and the highest level.
-#[derive(Drop)]
+#[derive(Clone, Copy)]
 pub struct Limits {
     pub steps: usize,
     pub formulas: usize,
@@ -33,7 +34,7 @@ pub struct Limits {
 }
 
 // What the search has used: steps entered, generated indices, and the fills of the lent words and nodes.
-#[derive(Drop)]
+#[derive(Clone, Copy)]
 pub struct State {
     pub steps: usize,
     pub indices: usize,
@@ -42,7 +43,7 @@ pub struct State {
 }
 
 // A sequent: its level's stretch of the work area holds so many unordered and ordered records; the goal is a formula's index.
-#[derive(Drop)]
+#[derive(Clone, Copy)]
 pub struct Sequent {
     pub level: usize,
     pub unordered: usize,
@@ -51,7 +52,7 @@ pub struct Sequent {
 }
 
 // What a judgement answers, and what has been used by then.
-#[derive(Drop)]
+#[derive(Clone, Copy)]
 pub enum Answer {
     // a term: its node
     Found(usize, State),
@@ -62,7 +63,7 @@ pub enum Answer {
 }
 
 // What one turn of left comes to.
-#[derive(Drop)]
+#[derive(Clone, Copy)]
 pub enum Next {
     // left again
     Go(State, Sequent),

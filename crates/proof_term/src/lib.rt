@@ -1,3 +1,4 @@
+#![tactic(auto)]
 // Term nodes in numbers: the kinds in the order of `ProofTerm`, the one writer of a node, and the layout test of nodes.
 ghost use Rattle.std.specs.Prelude.{◌≡◌, [], ◌∷◌, ◌*◌, ◌<◌, length, get_or, set, take};
 ghost use Rattle.theory.specs.NameText.{names_in, padded};
@@ -39,7 +40,7 @@ pub const UNIT: usize = 12;
 pub const KEYWORDS: [u8; 42] = *b"(pair(fst(snd(fn(app(inl(inr(case(abort(as";
 
 // What a field of a node holds.
-#[derive(Drop)]
+#[derive(Clone, Copy)]
 pub enum Field {
     // a name's number
     Name,
@@ -52,7 +53,7 @@ pub enum Field {
 }
 
 // How a kind is printed and what its five fields hold; or that there is no such kind.
-#[derive(Drop)]
+#[derive(Clone, Copy)]
 pub enum Fields {
     // where the keyword starts and ends in `KEYWORDS`, and the five, first to last. An Ident has no keyword: its name stands alone
     Held(usize, usize, Field, Field, Field, Field, Field),

@@ -1,3 +1,4 @@
+#![tactic(auto)]
 // The search of document 01: right, left and search, which call one another, and the public call. Dyckhoff's weight of the sequent is
 // the measure.
 ghost use Rattle.std.specs.Prelude.{◌≡◌, ◌≤◌, ◌<◌, length};
@@ -25,7 +26,7 @@ use meter::{Answer, Limits, Next, Sequent, State};
 use search_premises::Ready;
 
 // Right: True, And and Impl; all else is left to left.
-#[cycle(attempt_branch_first_premise_left_left_or_positions_premise_right_right_and_right_impl_search_second_half_second_premise)]
+#[cycle(judgement)]
 fn right(
     words: &mut [u32],
     terms: &mut [u16],
@@ -58,7 +59,7 @@ fn right(
 }
 
 // Both premises of a conjunction, and then Pair.
-#[cycle(attempt_branch_first_premise_left_left_or_positions_premise_right_right_and_right_impl_search_second_half_second_premise)]
+#[cycle(judgement)]
 fn right_and(
     words: &mut [u32],
     terms: &mut [u16],
@@ -101,7 +102,7 @@ fn right_and(
 }
 
 // Another goal by right, a level up: a premise of a conjunction, a half of a disjunction.
-#[cycle(attempt_branch_first_premise_left_left_or_positions_premise_right_right_and_right_impl_search_second_half_second_premise)]
+#[cycle(judgement)]
 fn premise(
     words: &mut [u32],
     terms: &mut [u16],
@@ -143,7 +144,7 @@ fn premise(
 }
 
 // The body of an implication, and then Function.
-#[cycle(attempt_branch_first_premise_left_left_or_positions_premise_right_right_and_right_impl_search_second_half_second_premise)]
+#[cycle(judgement)]
 fn right_impl(
     words: &mut [u32],
     terms: &mut [u16],
@@ -182,7 +183,7 @@ fn right_impl(
 }
 
 // Left goes on by left in a loop, so that a million turns in a row use no stack.
-#[cycle(attempt_branch_first_premise_left_left_or_positions_premise_right_right_and_right_impl_search_second_half_second_premise)]
+#[cycle(judgement)]
 fn left(
     words: &mut [u32],
     terms: &mut [u16],
@@ -214,7 +215,7 @@ fn left(
 }
 
 // Both premises of a disjunction, each with a name of its own, and then Case.
-#[cycle(attempt_branch_first_premise_left_left_or_positions_premise_right_right_and_right_impl_search_second_half_second_premise)]
+#[cycle(judgement)]
 fn left_or(
     words: &mut [u32],
     terms: &mut [u16],
@@ -280,7 +281,7 @@ fn left_or(
 }
 
 // One premise of a disjunction: the half a under the name of index x.
-#[cycle(attempt_branch_first_premise_left_left_or_positions_premise_right_right_and_right_impl_search_second_half_second_premise)]
+#[cycle(judgement)]
 fn branch(
     words: &mut [u32],
     terms: &mut [u16],
@@ -308,7 +309,7 @@ fn branch(
 
 // Search's rules 3 to 5: the halves of a disjunction, and then the positions. Its rules 1 and 2 stand in `search_leaves`, behind left's
 // turn: what fires goes on by left, up to a million times in a row, and there it does so in left's loop and not by a call.
-#[cycle(attempt_branch_first_premise_left_left_or_positions_premise_right_right_and_right_impl_search_second_half_second_premise)]
+#[cycle(judgement)]
 fn search(
     words: &mut [u32],
     terms: &mut [u16],
@@ -355,7 +356,7 @@ fn search(
 }
 
 // The second half of a disjunction, when the first failed; and then the positions.
-#[cycle(attempt_branch_first_premise_left_left_or_positions_premise_right_right_and_right_impl_search_second_half_second_premise)]
+#[cycle(judgement)]
 fn second_half(
     words: &mut [u32],
     terms: &mut [u16],
@@ -399,7 +400,7 @@ fn second_half(
 }
 
 // Rule 4 by rising position; with none left, failure.
-#[cycle(attempt_branch_first_premise_left_left_or_positions_premise_right_right_and_right_impl_search_second_half_second_premise)]
+#[cycle(judgement)]
 fn positions(
     words: &mut [u32],
     terms: &mut [u16],
@@ -435,7 +436,7 @@ fn positions(
 }
 
 // The try of unordered record i, (A→B)→C.
-#[cycle(attempt_branch_first_premise_left_left_or_positions_premise_right_right_and_right_impl_search_second_half_second_premise)]
+#[cycle(judgement)]
 fn attempt(
     words: &mut [u32],
     terms: &mut [u16],
@@ -467,7 +468,7 @@ fn attempt(
 }
 
 // A→B by right, with B→C in the place of (A→B)→C.
-#[cycle(attempt_branch_first_premise_left_left_or_positions_premise_right_right_and_right_impl_search_second_half_second_premise)]
+#[cycle(judgement)]
 fn first_premise(
     words: &mut [u32],
     terms: &mut [u16],
@@ -494,7 +495,7 @@ fn first_premise(
 }
 
 // The old goal by left, with C in the place of (A→B)→C; j is the node of A→B.
-#[cycle(attempt_branch_first_premise_left_left_or_positions_premise_right_right_and_right_impl_search_second_half_second_premise)]
+#[cycle(judgement)]
 fn second_premise(
     words: &mut [u32],
     terms: &mut [u16],

@@ -1,3 +1,4 @@
+#![tactic(auto)]
 // Prints what the prover says of a house file: the file that the first argument names, or standard input where there is none.
 ghost use Rattle.std.specs.Prelude.{◌≤◌, ◌≡◌, length};
 ghost use Rattle.theory.specs.File.{printed};
@@ -6,7 +7,7 @@ ghost use Rattle.quaysaffron.specs.Reading.{Grown};
 use libc::{STDIN_FILENO, STDOUT_FILENO};
 
 // What reading came to.
-#[derive(Drop)]
+#[derive(Clone, Copy)]
 enum Input {
     // so many bytes stand at the front of the buffer
     Bytes(usize),

@@ -1,3 +1,2 @@
-pub mod Generated
 pub mod Told
 pub mod Apart

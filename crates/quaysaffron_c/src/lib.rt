@@ -1,3 +1,4 @@
+#![tactic(auto)]
 // The public calls for other languages to link: C's calling convention, a slice as a pointer and a length, the answer as numbers.
 ghost use Rattle.std.specs.Prelude.{◌≡◌, length, take};
 ghost use Rattle.theory.specs.Form.{bad_word};

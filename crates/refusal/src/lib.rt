@@ -1,3 +1,4 @@
+#![tactic(auto)]
 // The rows of document 01's table that an input can meet before a search or a writing: 1 to 5 and 13, each with its place.
 ghost use Rattle.std.specs.Prelude.{◌≡◌, ◌*◌, ◌≤◌, length, get_or, take};
 ghost use Rattle.theory.specs.Form.{bad_word};
@@ -24,7 +25,7 @@ const MOST_STEPS: usize = 1000000;
 const MOST_ASSUMPTIONS: usize = 64;
 
 // Where an input breaks what is asked of it.
-#[derive(Drop)]
+#[derive(Clone, Copy)]
 pub enum Place {
     // it breaks nothing
     Nowhere,
@@ -33,7 +34,7 @@ pub enum Place {
 }
 
 // The highest level that a work area gives.
-#[derive(Drop)]
+#[derive(Clone, Copy)]
 pub enum Levels {
     // levels 0 to this one
     UpTo(usize),
@@ -42,7 +43,7 @@ pub enum Levels {
 }
 
 // What the tests of an input say, by the names of document 01's table, each with its place.
-#[derive(Drop)]
+#[derive(Clone, Copy)]
 pub enum Tested {
     // nothing is refused
     Passed,

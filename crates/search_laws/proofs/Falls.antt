@@ -108,24 +108,24 @@ module _ {m : Limits} {x : Lent} {s : State} {q : Sequent} (rep : Rep m x s q) w
   pub reads_unordered : Reads (book_of x s) (seq_of x.records q).unordered (forms_of (book_of x s) (seq_of x.records q).unordered)
   unfolding unordered_in entry_at
   reads_unordered = reads_each (book_of x s) _ (each_upto (book_of x s) _ q.unordered
-      (λ i h. inside (rep.seats.unordered_in_lem i h).formula_in))
+      (λ i h. inside (rep.seats.unordered_inside i h).formula_in))
 
   -- the unordered records before a place, and from a place on
   pub reads_before : (i : ℕ) → i ≤ q.unordered → Reads (book_of x s) (records_before x q i) (forms_of (book_of x s) (records_before x q i))
   unfolding unordered_in entry_at
   reads_before i l = reads_each (book_of x s) _ (each_upto (book_of x s) _ i
-      (λ j h. inside (rep.seats.unordered_in_lem j (omega arith)).formula_in))
+      (λ j h. inside (rep.seats.unordered_inside j (omega arith)).formula_in))
 
   pub reads_from : (i : ℕ) → i ≤ q.unordered → Reads (book_of x s) (records_from x q i) (forms_of (book_of x s) (records_from x q i))
   unfolding entry_at
   reads_from i l = reads_each (book_of x s) _ (each_from (book_of x s) _ i (q.unordered - i)
-      (λ j h. inside (rep.seats.unordered_in_lem (i + j) (omega arith)).formula_in))
+      (λ j h. inside (rep.seats.unordered_inside (i + j) (omega arith)).formula_in))
 
   pub reads_ordered : (k : ℕ) → k ≤ q.ordered →
       Reads (book_of x s) (ordered_in x.records q.level k) (forms_of (book_of x s) (ordered_in x.records q.level k))
   unfolding ordered_in entry_at
   reads_ordered k l = reads_each (book_of x s) _ (each_downto (book_of x s) _ k
-      (λ i h. inside (rep.seats.ordered_in_lem i (omega arith)).formula_in))
+      (λ i h. inside (rep.seats.ordered_inside i (omega arith)).formula_in))
 
   -- the whole sequent
   pub reading : ReadsAs (book_of x s) (seq_of x.records q) (forms_of (book_of x s) (seq_of x.records q).unordered)
@@ -134,7 +134,7 @@ module _ {m : Limits} {x : Lent} {s : State} {q : Sequent} (rep : Rep m x s q) w
     unordered = reads_unordered;
     ordered = reads_ordered q.ordered (omega arith);
     goal = at_index
-        rep.seats.goal_in_lem;
+        rep.seats.goal_in;
   }
 
 -- after what one charge pays for

@@ -52,7 +52,7 @@ module _ {m : Limits} (taken : List (List ℕ)) {x : Lent} {s : State} {q : Sequ
     unordered = subst (λ (es : List M.Entry). Reads (book_of x s) es (Y ++ (X ∷ Z))) (sym (parted x q i here))
         (reads_append (reads_before rep i (omega arith)) (and_more at_here (reads_from rep (suc i) here)));
     ordered = subst (λ (es : List M.Entry). Reads (book_of x s) es []) (sym (nothing_left taken rep none_left here)) no_more;
-    goal = at_index rep rep.seats.goal_in_lem;
+    goal = at_index rep rep.seats.goal_in;
   }
 
   -- the other records on a longer book

@@ -54,7 +54,7 @@ module _ {m : Limits} (taken : List (List ℕ)) {x : Lent} {s : State} {q : Sequ
     unordered = reads_unordered rep;
     ordered = subst (λ (es : List M.Entry). Reads (book_of x s) es (A ∷ O))
         (sym (ordered_pop x.records q some (omega (arith, rep.seats.fits)))) (and_more at_top reads_others);
-    goal = at_index rep rep.seats.goal_in_lem;
+    goal = at_index rep rep.seats.goal_in;
   }
 
   -- dropped

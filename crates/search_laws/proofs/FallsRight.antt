@@ -48,7 +48,7 @@ module _ {m : Limits} {x : Lent} {s : State} {q : Sequent} (rep : Rep m x s q) w
   -- the goal's formula by its kind
   goal_by : {k : ℕ} → kind_at x.words q.goal ≡ k →
       G ≡ tree_of (trees (book_of x s)) (shape_of k (left_at x.words q.goal) (right_at x.words q.goal))
-  goal_by e = form_by rep rep.seats.goal_in_lem (shape_as x.words q.goal e)
+  goal_by e = form_by rep rep.seats.goal_in (shape_as x.words q.goal e)
 
   pub and_lighter : kind_at x.words q.goal ≡ 3 →
       (weight (form (book_of x s) (left_at x.words q.goal)) < weight G) ×

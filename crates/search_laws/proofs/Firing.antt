@@ -172,7 +172,7 @@ module _ (m : Limits) (f : List ℕ) (nf : ℕ) (laid : Laid f nf) (long-f : nf 
         ∙ h
 
     inside : (j : ℕ) → j < p.unordered → formula_at w (p.level * stretch + j) < nf
-    inside j h = (x.so.seats.unordered_in_lem j h).formula_in
+    inside j h = (x.so.seats.unordered_inside j h).formula_in
 
     split_firing : firing ws us x.front ≡ firing ws us zs + firing ws us (e ∷ [])
     unfolding zs e cut

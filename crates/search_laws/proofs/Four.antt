@@ -59,7 +59,7 @@ parted_count x q i h =
 module _ {m : Limits} (taken : List (List ℕ)) {x : Lent} {s : State} {q : Sequent} (rep : Rep m x s q) (none_left : q.ordered ≡ 0) {i : ℕ}
     (here : i < q.unordered) where
   pub record_in : Inside s.formulas s.terms x.records (place_of q i)
-  record_in = rep.seats.unordered_in_lem i here
+  record_in = rep.seats.unordered_inside i here
 
   pub nothing_left : (seq_of x.records q).ordered ≡ []
   unfolding ordered_in downto
@@ -103,7 +103,7 @@ module _ {m : Limits} (taken : List (List ℕ)) {x : Lent} {s : State} {q : Sequ
         let h3 = fields eq3 in
         let few : (s.formulas + 0 ≤ 65536) × (s.terms + 1 ≤ 65536) = omega (arith, p, rep.rooms) in
         let x-in = record_in.term_in in
-        let goal = rep.seats.goal_in_lem in
+        let goal = rep.seats.goal_in in
         made_of search4 s.indices (app (term_of x q i) t ∷ []) (second_next x q i c s.terms) rep words_none et
         (fits16 (app (term_of x q i) t) (omega arith, omega arith) tt, tt) es p.indices (omega (arith, p.formulas)) p.terms
         (replaced (omega arith) (omega arith) (omega arith) (omega arith) few (omega arith)

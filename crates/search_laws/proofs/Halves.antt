@@ -43,7 +43,7 @@ module _ {m : Limits} (taken : List (List ℕ)) {x : Lent} {s : State} {q : Sequ
   tries_by : {sh : Shape} → shape_at x.words q.goal ≡ sh → (S : M.State) → Shows x s S → (d : ℕ) →
       tries m taken (seq_of x.records q) d S ≡ halves (limited (limits_of m)) taken (asks m taken d) (seq_of x.records q) S sh
   tries_by e S sh d =
-      ap (halves (limited (limits_of m)) taken (asks m taken d) (seq_of x.records q) S) (look_at sh rep.seats.goal_in_lem e)
+      ap (halves (limited (limits_of m)) taken (asks m taken d) (seq_of x.records q) S) (look_at sh rep.seats.goal_in e)
 
   -- a goal that is no Or
   else_by : (k l r : ℕ) → (k ≡ 4 → ⊥) → (Q : M.Sequent) (S : M.State) (d : ℕ) →
@@ -73,7 +73,7 @@ module _ {m : Limits} (taken : List (List ℕ)) {x : Lent} {s : State} {q : Sequ
     or_shape = shape_as x.words q.goal e
 
     pub or_parts : (left_at x.words q.goal < s.formulas) × (right_at x.words q.goal < s.formulas)
-    or_parts = let b = children rep rep.seats.goal_in_lem or_shape in let g = rep.seats.goal_in_lem in (omega arith, omega arith)
+    or_parts = let b = children rep rep.seats.goal_in or_shape in let g = rep.seats.goal_in in (omega arith, omega arith)
 
     -- what comes after a failed first half, seen from the state S before it
     abbrev after_first : M.State → ℕ → Tree → M.State → M.Answer
@@ -128,7 +128,7 @@ module _ {m : Limits} (taken : List (List ℕ)) {x : Lent} {s : State} {q : Sequ
           (λ S sh K. comes_as (λ d. after_first S d K (restart S s2.indices s2.steps))
           (λ d. first_second S s2.indices s2.steps K d
           ∙ ap₂ (λ (Q : M.Sequent) (w : ℕ). half_second m taken Q (right_of w) K d (restart S s2.indices s2.steps)) (sym back.seq)
-          (sym (back.frame.words.at q.goal rep.seats.goal_in_lem))) ((g.gives K).means (restart S s2.indices s2.steps) sh)))
+          (sym (back.frame.words.at q.goal rep.seats.goal_in))) ((g.gives K).means (restart S s2.indices s2.steps) sh)))
 
 -- the second half b, when the first failed
 module _ {m : Limits} (taken : List (List ℕ)) {x : Lent} {s : State} {q : Sequent} (rep : Rep m x s q) (b : ℕ) where

@@ -64,7 +64,7 @@ module _ {m : Limits} (taken : List (List ℕ)) {x : Lent} {s : State} {q : Sequ
         let h2 = fields eq2 in
         let h3 = fields eq3 in
         let few : (s.formulas + 0 ≤ 65536) × (s.terms + 1 ≤ 65536) = omega (arith, p, rep.rooms) in
-        let goal : q.goal < s.formulas = rep.seats.goal_in_lem in
+        let goal : q.goal < s.formulas = rep.seats.goal_in in
         made_of left_or (g + 1) (ident (name g) ∷ []) (half_next a) rep words_none et
         (fits16 (ident (name g)) tt (omega (arith, p.indices)), tt) es p.indices (omega (arith, p.formulas)) p.terms
         (area_push (area_up (area_top taken rep some q3.level (omega arith) (omega arith) eq) q.goal (omega arith)

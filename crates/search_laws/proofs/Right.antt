@@ -66,7 +66,7 @@ pub right_by : {m : Limits} (taken : List (List ℕ)) {x : Lent} {s : State} {q 
     on_right (limited (limits_of m)) taken (asks m taken d) (seq_of x.records q) S sh
 unfolding rule
 right_by {m} taken {x} {s} {q} rep {sh} e S shows d =
-    ap (on_right (limited (limits_of m)) taken (asks m taken d) (seq_of x.records q) S) (look_at shows rep.seats.goal_in_lem e)
+    ap (on_right (limited (limits_of m)) taken (asks m taken d) (seq_of x.records q) S) (look_at shows rep.seats.goal_in e)
 
 module _ {m : Limits} (taken : List (List ℕ)) {x : Lent} {s : State} {q : Sequent} (rep : Rep m x s q) where
   pub right_true_lem : {r : Answer} {t1 : List ℕ} → kind_at x.words q.goal ≡ 0 → Closes m x.numbers s unit r t1 →
@@ -100,7 +100,7 @@ module _ {m : Limits} (taken : List (List ℕ)) {x : Lent} {s : State} {q : Sequ
     and_shape = shape_as x.words q.goal e
 
     pub and_parts : (left_at x.words q.goal < s.formulas) × (right_at x.words q.goal < s.formulas)
-    and_parts = let b = children rep rep.seats.goal_in_lem and_shape in let g = rep.seats.goal_in_lem in (omega arith, omega arith)
+    and_parts = let b = children rep rep.seats.goal_in and_shape in let g = rep.seats.goal_in in (omega arith, omega arith)
 
     and_by : (S : M.State) → Shows x s S → (d : ℕ) →
         rule (limited (limits_of m)) taken (asks m taken d) M.by_right (seq_of x.records q) S ≡
@@ -131,7 +131,7 @@ module _ {m : Limits} (taken : List (List ℕ)) {x : Lent} {s : State} {q : Sequ
           let back = back_found mk rep up p.kept in
           goes_by and_by (gives_found mk (and_second m taken (seq_of x.records q) (right_at x.words q.goal)) rep up p
           (gives_as _ (λ S sh d. ap₂ (λ (Q : M.Sequent) (w : ℕ). and_second m taken Q (right_of w) d i S) (sym back.seq)
-          (sym (back.frame.words.at q.goal rep.seats.goal_in_lem))) g))
+          (sym (back.frame.words.at q.goal rep.seats.goal_in))) g))
 
 -- what is left of And after its first premise i; b is the second premise's goal
 module _ {m : Limits} (taken : List (List ℕ)) {x : Lent} {s : State} {q : Sequent} (rep : Rep m x s q) (b i : ℕ) where

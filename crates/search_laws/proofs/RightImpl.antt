@@ -41,7 +41,7 @@ module _ {m : Limits} (taken : List (List ℕ)) {x : Lent} {s : State} {q : Sequ
   impl_shape = shape_as x.words q.goal e
 
   pub impl_parts : (left_at x.words q.goal < s.formulas) × (right_at x.words q.goal < s.formulas)
-  impl_parts = let b = children rep rep.seats.goal_in_lem impl_shape in let g = rep.seats.goal_in_lem in (omega arith, omega arith)
+  impl_parts = let b = children rep rep.seats.goal_in impl_shape in let g = rep.seats.goal_in in (omega arith, omega arith)
 
   -- the body's sequent
   abbrev pub impl_next : M.Sequent

@@ -97,7 +97,7 @@ rooms_after f r = record {
 pub inside_same : {nf nt : ℕ} {w w1 : List Rec} {i : ℕ} → get_or w1 i zeroed ≡ get_or w i zeroed → Inside nf nt w i → Inside nf nt w1 i
 inside_same {nf} {nt} {w} {w1} {i} e x = record {
   formula_in = subst (λ (r : Rec). r.formula < nf) (sym e) x.formula_in;
-  term_in_lem = subst (λ (r : Rec). r.term < nt) (sym e) x.term_in;
+  term_in = subst (λ (r : Rec). r.term < nt) (sym e) x.term_in;
 }
 
 -- a sequent whose stretch was left alone is still there
@@ -106,9 +106,9 @@ pub seats_same : {m : Limits} {nf nt : ℕ} {w w1 : List Rec} {q : Sequent} {us 
 seats_same {w = w} {w1 = w1} {q = q} {l = l} a h x = record {
   level_in = x.level_in;
   fits = x.fits;
-  goal_in_lem = x.goal_in_lem;
-  unordered_in_lem = λ i k. inside_same (a.at (q.level * stretch + i) (omega (arith, x.fits))) (x.unordered_in_lem i k);
-  ordered_in_lem = λ i k. inside_same (a.at (q.level * stretch + stretch - 1 - i) (omega (arith, x.fits))) (x.ordered_in_lem i k);
+  goal_in = x.goal_in;
+  unordered_inside = λ i k. inside_same (a.at (q.level * stretch + i) (omega (arith, x.fits))) (x.unordered_inside i k);
+  ordered_inside = λ i k. inside_same (a.at (q.level * stretch + stretch - 1 - i) (omega (arith, x.fits))) (x.ordered_inside i k);
   unordered_is = unordered_same w w1 q.level q.unordered (λ i k. a.at (q.level * stretch + i) (omega (arith, x.fits)))
       ∙ x.unordered_is;
   ordered_is = ordered_same w w1 q.level q.ordered (λ i k. a.at (q.level * stretch + stretch - 1 - i) (omega (arith, x.fits)))

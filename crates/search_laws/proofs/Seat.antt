@@ -52,24 +52,24 @@ module _ {m : Limits} {nf nt : ℕ} {w : List Rec} {q : Sequent} {us os : List E
   seats_more {nf1} {nt1} hf ht = record {
     level_in = x.level_in;
     fits = x.fits;
-    goal_in_lem = omega (arith, x.goal_in_lem);
-    unordered_in_lem = λ i k. up (x.unordered_in_lem i k);
-    ordered_in_lem = λ i k. up (x.ordered_in_lem i k);
+    goal_in = omega (arith, x.goal_in);
+    unordered_inside = λ i k. up (x.unordered_inside i k);
+    ordered_inside = λ i k. up (x.ordered_inside i k);
     unordered_is = x.unordered_is;
     ordered_is = x.ordered_is;
   }
     where
       up : {i : ℕ} → Inside nf nt w i → Inside nf1 nt1 w i
-      up y = record { formula_in = omega (arith, y.formula_in); term_in_lem = omega (arith, y.term_in) }
+      up y = record { formula_in = omega (arith, y.formula_in); term_in = omega (arith, y.term_in) }
 
   -- the contexts as they are read off
   pub seats_own : Seats m nf nt w q (unordered_in w q.level q.unordered) (ordered_in w q.level q.ordered)
   seats_own = record {
     level_in = x.level_in;
     fits = x.fits;
-    goal_in_lem = x.goal_in_lem;
-    unordered_in_lem = x.unordered_in_lem;
-    ordered_in_lem = x.ordered_in_lem;
+    goal_in = x.goal_in;
+    unordered_inside = x.unordered_inside;
+    ordered_inside = x.ordered_inside;
     unordered_is = refl;
     ordered_is = refl;
   }
@@ -77,15 +77,15 @@ module _ {m : Limits} {nf nt : ℕ} {w : List Rec} {q : Sequent} {us os : List E
   -- the last ordered record is in use
   pub top_in : 0 < q.ordered → Inside nf nt w (top_place q)
   top_in h = subst (Inside nf nt w) (let p : q.level * stretch + stretch - 1 - (q.ordered - 1) ≡ top_place q = omega (arith, x.fits) in p)
-      (x.ordered_in_lem (q.ordered - 1) (omega arith))
+      (x.ordered_inside (q.ordered - 1) (omega arith))
 
   pub seats_pop : {q1 : Sequent} → q1 ≡ popped q → Seats m nf nt w q1 us (ordered_in w q.level (q.ordered - 1))
   seats_pop e = subst (λ (v : Sequent). Seats m nf nt w v us (ordered_in w q.level (q.ordered - 1))) (sym e) (record {
     level_in = x.level_in;
     fits = omega (arith, x.fits);
-    goal_in_lem = x.goal_in_lem;
-    unordered_in_lem = x.unordered_in_lem;
-    ordered_in_lem = λ i k. x.ordered_in_lem i (omega arith);
+    goal_in = x.goal_in;
+    unordered_inside = x.unordered_inside;
+    ordered_inside = λ i k. x.ordered_inside i (omega arith);
     unordered_is = x.unordered_is;
     ordered_is = refl;
   })
@@ -105,7 +105,7 @@ module _ {m : Limits} {nf nt : ℕ} {w : List Rec} {q : Sequent} {us os : List E
       inside_written : (i : ℕ) → i < length w → Inside nf nt (set w i (rec a t)) i
       inside_written i h = record {
         formula_in = subst (λ (r : Rec). r.formula < nf) (sym (written i h)) a_in;
-        term_in_lem = subst (λ (r : Rec). r.term < nt) (sym (written i h)) t-in;
+        term_in = subst (λ (r : Rec). r.term < nt) (sym (written i h)) t-in;
       }
 
       other : (p i : ℕ) → (i ≡ p → ⊥) → get_or (set w p (rec a t)) i zeroed ≡ get_or w i zeroed
@@ -120,10 +120,10 @@ module _ {m : Limits} {nf nt : ℕ} {w : List Rec} {q : Sequent} {us os : List E
         push_seats = record {
           level_in = x.level_in;
           fits = omega arith;
-          goal_in_lem = x.goal_in_lem;
-          unordered_in_lem = λ i k. inside_same (other (push_place q) (q.level * stretch + i) (omega arith)) (x.unordered_in_lem i k);
-          ordered_in_lem = below_more (λ (i : ℕ). Inside nf nt pushed_at (q.level * stretch + stretch - 1 - i)) q.ordered
-              (λ i k. inside_same (other (push_place q) (q.level * stretch + stretch - 1 - i) (omega arith)) (x.ordered_in_lem i k))
+          goal_in = x.goal_in;
+          unordered_inside = λ i k. inside_same (other (push_place q) (q.level * stretch + i) (omega arith)) (x.unordered_inside i k);
+          ordered_inside = below_more (λ (i : ℕ). Inside nf nt pushed_at (q.level * stretch + stretch - 1 - i)) q.ordered
+              (λ i k. inside_same (other (push_place q) (q.level * stretch + stretch - 1 - i) (omega arith)) (x.ordered_inside i k))
               (inside_written (push_place q) here);
           unordered_is = unordered_same w pushed_at q.level q.unordered
               (λ i k. other (push_place q) (q.level * stretch + i) (omega arith)) ∙ x.unordered_is;
@@ -151,11 +151,11 @@ module _ {m : Limits} {nf nt : ℕ} {w : List Rec} {q : Sequent} {us os : List E
         append_seats = record {
           level_in = x.level_in;
           fits = omega arith;
-          goal_in_lem = x.goal_in_lem;
-          unordered_in_lem = below_more (λ (i : ℕ). Inside nf nt appended_at (q.level * stretch + i)) q.unordered
-              (λ i k. inside_same (other (append_place q) (q.level * stretch + i) (omega arith)) (x.unordered_in_lem i k))
+          goal_in = x.goal_in;
+          unordered_inside = below_more (λ (i : ℕ). Inside nf nt appended_at (q.level * stretch + i)) q.unordered
+              (λ i k. inside_same (other (append_place q) (q.level * stretch + i) (omega arith)) (x.unordered_inside i k))
               (inside_written (append_place q) here);
-          ordered_in_lem = λ i k. inside_same (other (append_place q) (q.level * stretch + stretch - 1 - i) (omega arith)) (x.ordered_in_lem i k);
+          ordered_inside = λ i k. inside_same (other (append_place q) (q.level * stretch + stretch - 1 - i) (omega arith)) (x.ordered_inside i k);
           unordered_is = unordered_snoc appended_at q.level q.unordered
               ∙ ap₂ (λ (es : List Entry) (e : Entry). es ++ (e ∷ []))
               (unordered_same w appended_at q.level q.unordered

@@ -67,7 +67,7 @@ pieces_length (n ∷ ns) = ap suc (pieces_length ns)
 
 module _ {m : Limits} (taken : List (List ℕ)) {x : Lent} {s : State} {q : Sequent} (rep : Rep m x s q) where
   inside : (i : ℕ) → i < q.unordered → formula_at x.records (q.level * stretch + i) < s.formulas
-  inside i h = (rep.seats.unordered_in_lem i h).formula_in
+  inside i h = (rep.seats.unordered_inside i h).formula_in
 
   -- the place of the goal's leaf
   goal_place : ℕ
@@ -85,9 +85,9 @@ module _ {m : Limits} (taken : List (List ℕ)) {x : Lent} {s : State} {q : Sequ
       ∙ ap (λ (o : Option ℕ).
       elim o [ some t ↦ M.found t S | none ↦ rule2 (limited (limits_of m)) taken (asks m taken d) (seq_of x.records q) S ])
       (ap₂ (λ (ws : Book) (z : Shape). leaf_of ws (unordered_in x.records q.level q.unordered) z) sh.words
-      (look_at sh rep.seats.goal_in_lem refl)
+      (look_at sh rep.seats.goal_in refl)
       ∙ leaf_place_lem x.words s.formulas rep.laid x.records q.level q.unordered inside (take q.goal x.words)
-      (get_or x.words q.goal 0) (rep.laid q.goal rep.seats.goal_in_lem))
+      (get_or x.words q.goal 0) (rep.laid q.goal rep.seats.goal_in))
 
   -- rule 1: the first one's term
   pub settle_leaf : {j : ℕ} → j ≡ leaf_place x.words x.records q.level q.unordered (get_or x.words q.goal 0) → j <
@@ -115,7 +115,7 @@ module _ {m : Limits} (taken : List (List ℕ)) {x : Lent} {s : State} {q : Sequ
         laid = rep.laid;
         formulas_up = omega arith;
         terms_up = omega arith;
-        root_in = omega (arith, et, (rep.seats.unordered_in_lem j h).term_in);
+        root_in = omega (arith, et, (rep.seats.unordered_inside j h).term_in);
       };
     };
   }
@@ -231,7 +231,7 @@ module _ {m : Limits} (taken : List (List ℕ)) {x : Lent} {s : State} {q : Sequ
 
           small : Small us
           small = small_upto (λ i. entry_at x.records (q.level * stretch + i)) q.unordered
-              (λ i h. omega (arith, (rep.seats.unordered_in_lem i h).term_in, rep.within.in_terms, rep.rooms.most_terms))
+              (λ i h. omega (arith, (rep.seats.unordered_inside i h).term_in, rep.within.in_terms, rep.rooms.most_terms))
 
           fits : AllFit (pieces fired.nodes)
           fits = fired_fit B (book_good rep) us small (reads_unordered rep) small s.terms
@@ -264,14 +264,14 @@ module _ {m : Limits} (taken : List (List ℕ)) {x : Lent} {s : State} {q : Sequ
           before = record {
             unordered = reads_unordered rep;
             ordered = subst (λ (k : ℕ). Reads B (ordered_in x.records q.level k) []) (sym no_more) Context.no_more;
-            goal = at_index rep rep.seats.goal_in_lem;
+            goal = at_index rep rep.seats.goal_in;
           }
 
           after : ReadsAs (B ++ []) next gone.kept_as gone.new_as (form B q.goal)
           after = record {
             unordered = reads_ext more gone.kept_reads;
             ordered = reads_ext more gone.new_reads;
-            goal = at_ext more (at_index rep rep.seats.goal_in_lem);
+            goal = at_ext more (at_index rep rep.seats.goal_in);
           }
 
           fewer : {es : List M.Entry} {Y Z : List Form} → Reads B es Z → 0 < length es → Fires (forms_of B us) Y Z →

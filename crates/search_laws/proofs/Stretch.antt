@@ -24,7 +24,7 @@ use Rattle.search_laws.proofs.Copies.{shifts_length, shifts_below, shifts_above,
 inside_moved : {nf nt : ℕ} {w w1 : List Rec} (i j : ℕ) → get_or w1 j zeroed ≡ get_or w i zeroed → Inside nf nt w i → Inside nf nt w1 j
 inside_moved {nf} {nt} i j e y = record {
   formula_in = subst (λ (r : Rec). r.formula < nf) (sym e) y.formula_in;
-  term_in_lem = subst (λ (r : Rec). r.term < nt) (sym e) y.term_in;
+  term_in = subst (λ (r : Rec). r.term < nt) (sym e) y.term_in;
 }
 
 module _ {m : Limits} {nf nt : ℕ} {w : List Rec} {q : Sequent} {us os : List Entry} (x : Seats m nf nt w q us os) where
@@ -69,10 +69,10 @@ module _ {m : Limits} {nf nt : ℕ} {w : List Rec} {q : Sequent} {us os : List E
     up_seats g h = record {
       level_in = omega arith;
       fits = x.fits;
-      goal_in_lem = h;
-      unordered_in_lem = λ i k. inside_moved (q.level * stretch + i) ((q.level + 1) * stretch + i) (raised_front i k) (x.unordered_in_lem i k);
-      ordered_in_lem = λ i k. inside_moved (q.level * stretch + stretch - 1 - i) ((q.level + 1) * stretch + stretch - 1 - i) (raised_back i k)
-          (x.ordered_in_lem i k);
+      goal_in = h;
+      unordered_inside = λ i k. inside_moved (q.level * stretch + i) ((q.level + 1) * stretch + i) (raised_front i k) (x.unordered_inside i k);
+      ordered_inside = λ i k. inside_moved (q.level * stretch + stretch - 1 - i) ((q.level + 1) * stretch + stretch - 1 - i) (raised_back i k)
+          (x.ordered_inside i k);
       unordered_is = upto_ext q.unordered
           (λ i k. entry_by w (raised w q) (q.level * stretch + i) ((q.level + 1) * stretch + i) (raised_front i k)) ∙ x.unordered_is;
       ordered_is = downto_ext q.ordered
@@ -147,9 +147,9 @@ module _ {m : Limits} {nf nt : ℕ} {w : List Rec} {q : Sequent} {us os : List E
       out_seats = record {
         level_in = x.level_in;
         fits = omega (arith, x.fits, many);
-        goal_in_lem = x.goal_in_lem;
-        unordered_in_lem = ins;
-        ordered_in_lem = λ j h. inside_same (gone_back j h) (x.ordered_in_lem j h);
+        goal_in = x.goal_in;
+        unordered_inside = ins;
+        ordered_inside = λ j h. inside_same (gone_back j h) (x.ordered_inside j h);
         unordered_is = gone_unordered;
         ordered_is = ordered_same w gone q.level q.ordered gone_back ∙ x.ordered_is;
       }
@@ -158,10 +158,10 @@ module _ {m : Limits} {nf nt : ℕ} {w : List Rec} {q : Sequent} {us os : List E
           ins j h = go (ltb j i) refl
             where
               go : (b : Bool) → ltb j i ≡ b → Inside nf nt gone (q.level * stretch + j)
-              go true l = inside_same (gone_front j (ltb-true j i l)) (x.unordered_in_lem j (omega (arith, many)))
+              go true l = inside_same (gone_front j (ltb-true j i l)) (x.unordered_inside j (omega (arith, many)))
               go false l =
                   inside_moved (q.level * stretch + suc j) (q.level * stretch + j) (gone_next j (ltb-false j i l) h)
-                  (x.unordered_in_lem (suc j) (omega (arith, many)))
+                  (x.unordered_inside (suc j) (omega (arith, many)))
 
       -- those before it and those after it
       pub seats_out : {w1 : List Rec} {q1 : Sequent} → w1 ≡ removed w q (length before) → q1 ≡ without q →

@@ -42,15 +42,15 @@ pub record Within (m : Limits) (s : State) : Type 0 where
 -- a record in use refers to words and nodes below the fills
 pub record Inside (nf nt : ℕ) (w : List Rec) (i : ℕ) : Type 0 where
   pub formula_in : formula_at w i < nf
-  pub term_in_lem : term_at w i < nt
+  pub term_in : term_at w i < nt
 
 -- the stretch of the sequent's level holds the contexts us and os
 pub record Seats (m : Limits) (nf nt : ℕ) (w : List Rec) (q : Sequent) (us os : List Entry) : Type 0 where
   pub level_in : q.level ≤ m.levels
   pub fits : q.unordered + q.ordered ≤ stretch
-  pub goal_in_lem : q.goal < nf
-  pub unordered_in_lem : (i : ℕ) → i < q.unordered → Inside nf nt w (q.level * stretch + i)
-  pub ordered_in_lem : (i : ℕ) → i < q.ordered → Inside nf nt w (q.level * stretch + stretch - 1 - i)
+  pub goal_in : q.goal < nf
+  pub unordered_inside : (i : ℕ) → i < q.unordered → Inside nf nt w (q.level * stretch + i)
+  pub ordered_inside : (i : ℕ) → i < q.ordered → Inside nf nt w (q.level * stretch + stretch - 1 - i)
   pub unordered_is : unordered_in w q.level q.unordered ≡ us
   pub ordered_is : ordered_in w q.level q.ordered ≡ os
 

@@ -48,7 +48,7 @@ start_of {m} {f} {t} {w} {s} {q} x =
     let long : s.formulas ≤ length f = omega (arith, rep.rooms.words_room, rep.within.in_formulas) in
     let same : firing_in f w q.level q.unordered q.unordered ≡
     firing (book f s.formulas) (unordered_in w q.level q.unordered) (unordered_in w q.level q.unordered) =
-    firing_counted f s.formulas rep.laid long w q.level q.unordered (λ i h. (rep.seats.unordered_in_lem i h).formula_in)
+    firing_counted f s.formulas rep.laid long w q.level q.unordered (λ i h. (rep.seats.unordered_inside i h).formula_in)
     q.unordered (omega arith) in
     record {
       laid = rep.laid;

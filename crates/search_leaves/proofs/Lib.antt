@@ -1,3 +1,2 @@
-pub mod Generated
 pub mod Walk
 pub mod Fall

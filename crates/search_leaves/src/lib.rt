@@ -1,3 +1,4 @@
+#![tactic(auto)]
 // Search's rules 1 and 2, which go by the leaves among the unordered records: the first one that is the goal, and every leaf→B that
 // fires. Left's turn asks them, since what fires goes on by left: in left's loop a million of them in a row use no stack. Search's rules 3
 // to 5, the tries, are `prove`'s `search`.

@@ -1,4 +1,3 @@
-pub mod Generated
 pub mod Written
 pub mod Nests
 pub mod Charged

@@ -1,3 +1,4 @@
+#![tactic(auto)]
 // What one rule of left writes and charges, where it asks nothing of another judgement; and the nodes and words that rules write.
 // What is `pub` here is for the crate `prove`: a `requires` is what its code shows before it calls.
 ghost use Rattle.std.specs.Prelude.{◌≡◌, List, [], ◌∷◌, ℕ, ◌≤◌, ◌<◌, length, set};

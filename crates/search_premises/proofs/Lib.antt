@@ -1,4 +1,3 @@
-pub mod Generated
 pub mod Makes
 pub mod Asking
 pub mod RightWays

@@ -1,3 +1,4 @@
+#![tactic(auto)]
 // What a rule tests, writes and moves before one of its premises is asked a level up.
 // What is `pub` here is for the crate `prove`: a `requires` is what its code shows before it calls.
 ghost use Rattle.std.specs.Prelude.{◌≡◌, List, ℕ, ◌+◌, ◌≤◌, ◌<◌};
@@ -11,7 +12,7 @@ use identifier_generator::GENERATED;
 use meter::{Limits, Sequent, State};
 
 // The premise's state and sequent, or the number of the limit that its charge passes.
-#[derive(Drop)]
+#[derive(Clone, Copy)]
 pub enum Ready {
     // the premise may be asked
     Go(State, Sequent),

@@ -1,4 +1,3 @@
-pub mod Generated
 pub mod Shapes
 pub mod Marked
 pub mod Lists

@@ -1,3 +1,4 @@
+#![tactic(auto)]
 // The status of a formula (the Rust's `get_prop_solvable_status`): a search of the goal, and where that fails and the goal is open, a
 // search of its negation.
 ghost use Rattle.std.specs.Prelude.{◌≡◌, ◌+◌, ◌≤◌, ◌<◌, [], map, length, get_or, take, replicate};
@@ -20,7 +21,7 @@ use context::Record;
 const FIRST_FREE: usize = 8192;
 
 // What comes back: a verdict, a shortage of either search with that search's steps, or a refusal with its place.
-#[derive(Drop)]
+#[derive(Clone, Copy)]
 pub enum Status {
     // the goal has a proof
     Solvable,

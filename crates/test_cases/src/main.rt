@@ -1,3 +1,4 @@
+#![tactic(auto)]
 // Document 01's cases, each limit at its boundary and each pair of neighbouring refusals, through the public calls. A line of output is a
 // case's name and what came back.
 mod show;

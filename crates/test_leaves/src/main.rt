@@ -1,3 +1,4 @@
+#![tactic(auto)]
 // The boundaries of the leaves: what each function answers just inside and just outside of every rule.
 mod names;
 mod nodes;

@@ -1,3 +1,4 @@
+#![tactic(auto)]
 // The lists that `test_cases` and `test_replay` run: how a list is read and told, and the walk from row to row.
 //
 // A list is how it was made (a length and so many bytes), how many rows it has, and the rows. What a program adds to a row stands behind
@@ -55,7 +56,7 @@ pub fn count(list: &[u8]) -> usize {
 }
 
 // Where a row begins, the book that it runs, and where the next row begins.
-#[derive(Drop)]
+#[derive(Clone, Copy)]
 pub struct Row {
     pub at: usize,
     pub book: usize,

@@ -1,3 +1,4 @@
+#![tactic(auto)]
 // The oracle's answers: every row of the list through the public calls, and every number compared.
 mod tally;
 

@@ -1,3 +1,2 @@
 -- The laws behind the proofs of `test_rows`. Assumes nothing.
-pub mod Generated
 pub mod Laying

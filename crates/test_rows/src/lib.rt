@@ -1,3 +1,4 @@
+#![tactic(auto)]
 // The list of rows that `test_cases` and `test_replay` run, as bytes: numbers of one, three or five bytes, and stretches of words, halves
 // and bytes. Past the end of the list every byte is 0, and no position lies past it, so that no caller owes a bound.
 mod compare;

@@ -1,2 +1,1 @@
 -- What the proofs of `runs` stand on. Assumes nothing.
-pub mod Generated

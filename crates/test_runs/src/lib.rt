@@ -1,3 +1,4 @@
+#![tactic(auto)]
 // One row of a list through the public calls: a claim is searched and its term written, a given term is written alone, the status of a
 // goal is asked, or a house file is answered.
 //
@@ -57,7 +58,7 @@ const MOST_NUMBERS: usize = 98310;
 
 // What came back: the seven numbers of the call (of a status, the verdict in the root's place), the writer's number, the length and the
 // checksum of the text, and whether each lent slice holds what document 01 says.
-#[derive(Drop)]
+#[derive(Clone, Copy)]
 pub struct Answer {
     pub call: [usize; 7],
     pub writer: usize,

@@ -64,7 +64,7 @@ pub fn ask(
 }
 
 // What lies above the given words and the nodes that stay: zero after an answer or a shortage, junk still after a refusal.
-#[derive(Drop)]
+#[derive(Clone, Copy)]
 pub struct Rest {
     pub words: usize,
     pub numbers: usize,

@@ -8,7 +8,7 @@ use test_rows::{at_most, field};
 const SPARE: u8 = 90;
 
 // What the writer gave: its number and place, how many bytes, and whether its two forms gave the same.
-#[derive(Drop)]
+#[derive(Clone, Copy)]
 pub struct Written {
     pub asked: bool,
     pub number: usize,

@@ -70,11 +70,11 @@ deepening = record {
   on_found = λ t s r. the_same;
   on_fail = λ m s r. the_same;
   on_unfinished = the_same;
-  on_step_lem = λ s k k' r h. deep_after _ (h _ tt);
-  on_charge_lem = λ u ws ns q s k k' r v h. deep_after _ (h _ tt tt);
-  on_nodes_lem = λ ns s k k' r h. deep_after _ (h _ tt);
-  on_premise_lem = λ x y k k' p h. deep_premise k k' p (λ t s. h t s tt);
-  on_try_lem = λ s x y k k' o o' r p h f. deep_try s k k' o o' p (λ t s. h t s tt) (λ m s. f m s tt);
+  on_step = λ s k k' r h. deep_after _ (h _ tt);
+  on_charge = λ u ws ns q s k k' r v h. deep_after _ (h _ tt tt);
+  on_nodes = λ ns s k k' r h. deep_after _ (h _ tt);
+  on_premise = λ x y k k' p h. deep_premise k k' p (λ t s. h t s tt);
+  on_try = λ s x y k k' o o' r p h f. deep_try s k k' o o' p (λ t s. h t s tt) (λ m s. f m s tt);
 }
 
 log_deeper : (names : List (List ℕ)) (d d' : ℕ) → d ≤ d' → (ws : Book) (hs : List ℕ) (g : ℕ) →

@@ -50,12 +50,12 @@ module _ (L : Limits) (ws : Book) where
     on_found = λ t s x. x;
     on_fail = λ m s x. longer_fail m s;
     on_unfinished = tt;
-    on_step_lem = λ s k k' x f. at_step L (λ a b. Longer ws a) s k k' (λ e. tt) (λ p. f _ x);
-    on_charge_lem = λ u vs ns q s k k' x v f.
+    on_step = λ s k k' x f. at_step L (λ a b. Longer ws a) s k k' (λ e. tt) (λ p. f _ x);
+    on_charge = λ u vs ns q s k k' x v f.
         at_charge L (λ a b. Longer ws a) u vs ns q s k k' (λ l n. tt) (λ p. f _ (ext_trans x (ext_by s.words vs)) tt);
-    on_nodes_lem = λ ns s k k' x f. at_nodes L (λ a b. Longer ws a) ns s k k' tt (λ p. f _ x);
-    on_premise_lem = λ a b k k' h f. longer_premise a k h f;
-    on_try_lem = λ s₀ a b k k' o o' x h f g. longer_try s₀ a k o x h f g;
+    on_nodes = λ ns s k k' x f. at_nodes L (λ a b. Longer ws a) ns s k k' tt (λ p. f _ x);
+    on_premise = λ a b k k' h f. longer_premise a k h f;
+    on_try = λ s₀ a b k k' o o' x h f g. longer_try s₀ a k o x h f g;
   }
 
 -- so what a run finds stands in a longer book

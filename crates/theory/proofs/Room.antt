@@ -138,11 +138,11 @@ module _ (L : Limits) (ws₀ : Book) where
     on_found = λ t s i. one (b_found i);
     on_fail = same_fail;
     on_unfinished = one b_unfinished;
-    on_step_lem = same_step;
-    on_charge_lem = λ u vs ns q s k k' i v f. same_charge u vs ns q s k k' i v (λ s₁ i₁ r. f s₁ i₁ (tested q r));
-    on_nodes_lem = same_nodes;
-    on_premise_lem = same_premise;
-    on_try_lem = same_try;
+    on_step = same_step;
+    on_charge = λ u vs ns q s k k' i v f. same_charge u vs ns q s k k' i v (λ s₁ i₁ r. f s₁ i₁ (tested q r));
+    on_nodes = same_nodes;
+    on_premise = same_premise;
+    on_try = same_try;
   }
 
   -- whatever the search answers is within its limits, if what it is given is

@@ -72,13 +72,13 @@ module _ (L : Limits) where
     on_found = λ t s i. one L ws (b_found i);
     on_fail = same_fail L ws;
     on_unfinished = one L ws b_unfinished;
-    on_step_lem = same_step L ws;
-    on_charge_lem = λ u vs ns q s k k' i v f.
+    on_step = same_step L ws;
+    on_charge = λ u vs ns q s k k' i v f.
         subst (Same L ws (charge L u vs ns q s k)) (charge_added u vs ns q s k' i.within)
         (same_charge L ws u vs ns q s k k' i v (λ s₁ i₁ r. f s₁ i₁ tt));
-    on_nodes_lem = same_nodes L ws;
-    on_premise_lem = same_premise L ws;
-    on_try_lem = same_try L ws;
+    on_nodes = same_nodes L ws;
+    on_premise = same_premise L ws;
+    on_try = same_try L ws;
   }
 
   -- so the answers are, from a start within the limits

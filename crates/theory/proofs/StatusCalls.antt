@@ -236,10 +236,12 @@ reached x = subst (Reached x) (sym (asked_status x)) (first (told (first_claim x
 -- the verdict on two outcomes, the first without a proof and the goal open
 judged_unknown : {o second : Outcome} (b : Bool) → Unproved o → T b → Unproved second → judged o b second ≡ settled Unknown
 unfolding judged refuted
+judged_unknown false unproved is_open second = elim is_open [ ]
 judged_unknown true no_proof is_open no_proof = refl
 
 judged_short : {o : Outcome} (b : Bool) → Unproved o → T b → (l : Lack) (n : ℕ) → judged o b (shortage l n) ≡ ran_short l n
 unfolding judged refuted
+judged_short false unproved is_open l n = elim is_open [ ]
 judged_short true no_proof is_open l n = refl
 
 module _ (x : Inquiry) where
@@ -310,6 +312,7 @@ module _ (x : Inquiry) where
     where
       go : {o : Outcome} (b : Bool) → Unproved o → T b → (second : Outcome) → ¬ Decided second →
           status_numbers (judged o b second) ≡ numbers second
+      go false unproved is_open second d = elim is_open [ ]
       go true no_proof is_open (proved r n u f t) d = absurd (d is_proved)
       go true no_proof is_open (unprovable n u f t) d = absurd (d is_unprovable)
       go true no_proof is_open (shortage l n) d = refl

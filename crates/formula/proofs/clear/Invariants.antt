@@ -1,0 +1,15 @@
+-- `clear` has zeroed the words from `from` up to `i`. The measure is what is left of the slice. Assumes nothing.
+use borrow.Author.Rules.{rules}
+use Prim.Native.Nat.{◌-◌, ◌≤◌}
+use mathlib.Core.Path.{◌≡◌, refl, ◌∙◌}
+use mathlib.Core.Logic.{◌⊎◌, inl, inr}
+use native.Mathlib.Omega.{arith}
+use lib.ListN.{length}
+use Rattle.theory.proofs.Cleared.{Clearing, clearing_starts, clearing_goes, clearing_done, padded_take}
+use Rattle.formula.proofs.clear.Given as goal
+
+abbrev pub invariant-loop-i : goal.invariant-loop-i
+invariant-loop-i l = ((l.i ≤ length l.initial.words) ⊎ (l.i ≡ l.from)) × Clearing 0 l.initial.words l.from l.i l.words
+
+abbrev pub decreases-loop-i : goal.decreases-loop-i
+decreases-loop-i l = length l.initial.words - l.i

@@ -1,0 +1,14 @@
+-- `clear` has zeroed the bytes before `j`. The measure is what is left of the buffer. Assumes nothing.
+use borrow.Author.Rules.{rules}
+use Prim.Native.Nat.{ℕ, ◌-◌, ◌≤◌}
+use mathlib.Core.Path.{◌≡◌, ap, ◌∙◌}
+use native.Mathlib.Omega.{arith}
+use lib.ListN.{length, replicate}
+use Rattle.theory.proofs.Cleared.{Clearing, clearing_starts, clearing_goes, clearing_ends}
+use Rattle.identifier_generator.proofs.clear.Given as goal
+
+abbrev pub invariant-loop-j : goal.invariant-loop-j
+invariant-loop-j l = (l.j ≤ length l.initial.buf) × Clearing 0 l.initial.buf 0 l.j l.buf
+
+abbrev pub decreases-loop-j : goal.decreases-loop-j
+decreases-loop-j l = length l.initial.buf - l.j

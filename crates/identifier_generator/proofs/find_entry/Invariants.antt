@@ -1,0 +1,16 @@
+-- `find_entry` has passed the entries before the one looked for. The measure is what is left of the text. Assumes nothing.
+use borrow.Author.Rules.{rules}
+use Prim.Native.Nat.{ℕ, ◌+◌, ◌-◌, ◌≤◌}
+use mathlib.Core.Path.{◌≡◌, refl, sym, ap, ◌∙◌}
+use native.Mathlib.Omega.{arith}
+use lib.ListN.{length, take, drop}
+use Rattle.identifier_generator.specs.Entry.{entry_size, entry_from}
+use Rattle.identifier_generator.proofs.Cursor.{none_at, end_inside}
+use Rattle.identifier_generator.proofs.EntryPlaces.{missing_at, held_at, later_at}
+use Rattle.identifier_generator.proofs.find_entry.Given as goal
+
+abbrev pub invariant-loop-k : goal.invariant-loop-k
+invariant-loop-k l = (l.at ≤ length l.text) × (entry_from 0 l.k l.text ≡ entry_from l.at l.left (drop l.at l.text))
+
+abbrev pub decreases-loop-k : goal.decreases-loop-k
+decreases-loop-k l = length l.text - l.at

@@ -1,0 +1,9 @@
+-- `letter_count` is the length of the spelling. Assumes nothing.
+use borrow.Author.Rules.{rules}
+use mathlib.Core.Path.{sym}
+use Rattle.theory.proofs.Spelling.{spell_length}
+use Rattle.identifier_generator.proofs.letter_count.Goals as goal
+
+pub returns : goal.returns
+returns c =
+    sym (spell_length c.args.i)

@@ -1,0 +1,22 @@
+-- `name_alone` hands the written front back. Assumes nothing.
+use borrow.Author.Rules.{rules}
+use mathlib.Core.Path.{refl}
+use lib.ListN.{length}
+use Rattle.theory.proofs.Fitted.{alone_front}
+use Rattle.identifier_generator.proofs.Handing.{front_is_part, part_inside}
+use Rattle.identifier_generator.proofs.name_alone.Goals as goal
+
+pub slice_bounds-result-end : goal.slice_bounds-result-end
+slice_bounds-result-end c =
+    let args = c.args in
+    part_inside (alone_front args.i (length args.buf.now)) c.write_alone-n.ensures
+
+pub returns : goal.returns
+returns c =
+    let args = c.args in
+    let written = c.write_alone-n.ensures in
+    record {
+      front_is = refl;
+      part_is = front_is_part (alone_front args.i (length args.buf.now)) written;
+      number_is = written.number_is;
+    }

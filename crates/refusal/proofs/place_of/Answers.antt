@@ -1,0 +1,41 @@
+-- `place_of` goes by the refusal. Assumes nothing.
+use mathlib.Core.Path.{sym, ap}
+use Rattle.refusal.specs.declared.Tested.{Tested}
+use Rattle.refusal.specs.Table.{refused_by, place_in}
+use borrow.Author.Rules.{rules}
+use Rattle.refusal.proofs.place_of.Goals as goal
+
+pub returns-in-Passed : goal.returns-in-Passed
+unfolding refused_by place_in
+returns-in-Passed c =
+    sym (ap (λ (x : Tested). place_in (refused_by x)) c.in-Passed.is)
+
+pub returns-in-Sizes : goal.returns-in-Sizes
+unfolding refused_by place_in
+returns-in-Sizes c =
+    sym (ap (λ (x : Tested). place_in (refused_by x)) c.in-Sizes.is)
+
+pub returns-in-BadFormula : goal.returns-in-BadFormula
+unfolding refused_by place_in
+returns-in-BadFormula c =
+    sym (ap (λ (x : Tested). place_in (refused_by x)) c.in-BadFormula.is)
+
+pub returns-in-BadAssumption : goal.returns-in-BadAssumption
+unfolding refused_by place_in
+returns-in-BadAssumption c =
+    sym (ap (λ (x : Tested). place_in (refused_by x)) c.in-BadAssumption.is)
+
+pub returns-in-BadNames : goal.returns-in-BadNames
+unfolding refused_by place_in
+returns-in-BadNames c =
+    sym (ap (λ (x : Tested). place_in (refused_by x)) c.in-BadNames.is)
+
+pub returns-in-BadGoal : goal.returns-in-BadGoal
+unfolding refused_by place_in
+returns-in-BadGoal c =
+    sym (ap (λ (x : Tested). place_in (refused_by x)) c.in-BadGoal.is)
+
+pub returns-in-BadTerm : goal.returns-in-BadTerm
+unfolding refused_by place_in
+returns-in-BadTerm c =
+    sym (ap (λ (x : Tested). place_in (refused_by x)) c.in-BadTerm.is)

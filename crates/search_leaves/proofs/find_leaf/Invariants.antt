@@ -1,0 +1,11 @@
+-- What is left of the search for the leaf is the search from i on. Assumes nothing.
+use borrow.Author.Rules.{rules}
+use Prim.Native.Nat.{◌-◌}
+use Rattle.search_leaves.proofs.Walk.{Looking, looking_starts, looking_found, looking_on, looking_ends}
+use Rattle.search_leaves.proofs.find_leaf.Given as goal
+
+abbrev pub invariant-loop-i : goal.invariant-loop-i
+invariant-loop-i l = Looking l.words l.work l.l l.n l.leaf l.i
+
+abbrev pub decreases-loop-i : goal.decreases-loop-i
+decreases-loop-i l = l.n - l.i
