@@ -24,9 +24,10 @@ COMMENT = {".antt": re.compile(r"(?<![^\s(){}.;,@])--.*"), ".rt": re.compile(r"/
 # English in comments, though lemmas have the name
 PROSE = {"well-spelled"}
 # what port.py turned to the spelling that a definition of ours has: the lemma gets `_lem`
-MET = "after_first and_second by_length given_back in_order is_leaf laid_out left_and left_by left_false limits_of numbers_of on_step term_in first_leaf fields_of leaves_in".split()
-# fields of a record, which stand behind a dot
-FIELDS = {"on_step"}
+MET = "after_first and_second by_length given_back in_order is_leaf laid_out left_and left_by left_false limits_of numbers_of term_in first_leaf leaves_in".split()
+# what port.py turned to the definition's spelling, where a lemma falls together with it; and fields of records, which meet no definition but within their own record
+GIVEN = {"fields-of": "fields_of_lem", "on_step": "on_step", "goal-in": "goal_in", "unordered-in": "unordered_inside", "ordered-in": "ordered_inside"}
+GIVEN |= {f"on-{word}": f"on_{word}" for word in ("charge", "nodes", "premise", "try")}
 # names of the library's, which a lemma of ours has too
 LIBRARY = {"drop-cons", "or-false"}
 
@@ -77,7 +78,7 @@ def table(names):
     for new in MET:
         if new in names and new in taken:
             rows[new] = new + "_lem"
-    return rows
+    return rows | {old: new for old, new in GIVEN.items() if old in names}
 
 
 def turned(text, rows, kind):
@@ -87,7 +88,7 @@ def turned(text, rows, kind):
         old = m[0]
         if old not in rows:
             return old
-        if old in MET and old not in FIELDS and (text[m.start() - 1 : m.start()] == "." or text[m.end() : m.end() + 1] in (".", "'")):
+        if old in MET and (text[m.start() - 1 : m.start()] == "." or text[m.end() : m.end() + 1] in (".", "'")):
             return old
         return rows[old]
 

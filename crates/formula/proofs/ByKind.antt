@@ -36,6 +36,6 @@ by_bands i (suc (suc (suc (suc (suc (suc (suc (suc k)))))))) l r =
     rw (le-ltb n 2 (omega arith), no_leaf n (omega arith), le-ltb n 6 (omega arith))
 
 -- the layout of a word of 32 bits is that of its fields
-pub fields_of : (i w : ℕ) → w < 2 ^ 32 → good_fields i (kind_of w) (left_of w) (right_of w) ≡ laid_out i w
+pub fields_of_lem : (i w : ℕ) → w < 2 ^ 32 → good_fields i (kind_of w) (left_of w) (right_of w) ≡ laid_out i w
 unfolding laid_out
-fields_of i w h = rw (lt-ltb w 4294967296 h)
+fields_of_lem i w h = rw (lt-ltb w 4294967296 h)

@@ -9,7 +9,7 @@ use lib.ListN.{get_or}
 use Rattle.theory.specs.Form.{form}
 use Rattle.theory.specs.Term.{Term, Ident, Pair, Fst, Snd, Fn, App, Inl, Inr, Case, Abort, Asc, Unit', term}
 use Rattle.theory.specs.Names.{spell, bytes_of}
-use Rattle.theory.specs.Layout.{Field, fields_of_lem, piece_of}
+use Rattle.theory.specs.Layout.{Field, fields_of, piece_of}
 use Rattle.theory.specs.Text.{bytes, form_text, term_text}
 use Rattle.theory.specs.Writer.{form_depth, term_depth}
 use Rattle.theory.proofs.TextByNode.{piece_text, piece_depth}
@@ -92,9 +92,9 @@ module _ (words terms : List ℕ) (names : List (List ℕ)) where
 
     -- the kinds one by one
     pub shown_piece : (k : ℕ) →
-        Whole (shown (fields_of_lem k) (keyword k)) (suc l) (piece_depth child_depth formula_depth (piece_of k a b c d e))
+        Whole (shown (fields_of k) (keyword k)) (suc l) (piece_depth child_depth formula_depth (piece_of k a b c d e))
         (piece_text names child_text formula_text (piece_of k a b c d e))
-    unfolding keyword keywords fields_of_lem piece_of field_piece form_piece term_piece joined bytes
+    unfolding keyword keywords fields_of piece_of field_piece form_piece term_piece joined bytes
     shown_piece zero = alone l (bytes_of names a)
     shown_piece (suc zero) = above (before_it (keyword 1) (beside (child_piece a) (behind_it (child_piece b) (bytes ")"))))
     shown_piece (suc (suc zero)) = above (before_it (keyword 2) (behind_it (child_piece a) (bytes ")")))

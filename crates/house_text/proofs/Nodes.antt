@@ -7,7 +7,7 @@ use native.Mathlib.Omega.{arith}
 use lib.ListN.{length, get_or}
 use Rattle.theory.specs.Term.{Piece, blank, NodeIn}
 use Rattle.theory.specs.Names.{bytes_of}
-use Rattle.theory.specs.Layout.{node_width, Field, name, child, formula, unused, fields_of_lem, piece_of, piece_at, nodes_from, nodes_in}
+use Rattle.theory.specs.Layout.{node_width, Field, name, child, formula, unused, fields_of, piece_of, piece_at, nodes_from, nodes_in}
 use Rattle.theory.specs.Text.{bytes}
 use Rattle.theory.proofs.TextByNode.{piece_text, piece_depth, text_by_node, depth_by_node, node_at, node_in}
 use Rattle.proof_term.specs.declared.Field as declared-field
@@ -31,8 +31,8 @@ HeldIn m n none xs = Unit {0}
 HeldIn m n (some fs) xs = FieldsIn m n fs xs
 
 -- the kinds one by one
-held_in : (m i k a b c d e : ℕ) → NodeIn m i (piece_of k a b c d e) → HeldIn m i (fields_of_lem k) (a ∷ b ∷ c ∷ d ∷ e ∷ [])
-unfolding piece_of fields_of_lem
+held_in : (m i k a b c d e : ℕ) → NodeIn m i (piece_of k a b c d e) → HeldIn m i (fields_of k) (a ∷ b ∷ c ∷ d ∷ e ∷ [])
+unfolding piece_of fields_of
 held_in m i zero a b c d e h = (tt, (tt, (tt, (tt, (tt, tt)))))
 held_in m i (suc zero) a b c d e h = (h.0, (h.1, (tt, (tt, (tt, tt)))))
 held_in m i (suc (suc zero)) a b c d e h = (h, (tt, (tt, (tt, (tt, tt)))))
@@ -129,7 +129,7 @@ module _ {words terms : List ℕ} {i k : ℕ} (n : NodeRead words terms i k) {a 
           w.is ∙ ap (λ (m : ℕ). up_to m (depths s) (texts s)) more ∙ ap₂ (up_to levels) depth text
 
       -- the fields and the keyword that the one decision gave
-      decided_piece : (o : Option (List Field)) (w : List ℕ) → fields_of_lem k ≡ o → keyword k ≡ w →
+      decided_piece : (o : Option (List Field)) (w : List ℕ) → fields_of k ≡ o → keyword k ≡ w →
           shown words terms names (levels - 1) a b c d e o w ≡ term_piece words terms names levels i
       decided_piece o w h z =
           ap₂ (shown words terms names (levels - 1) a b c d e) (sym h) (sym z)

@@ -7,7 +7,7 @@ use mathlib.Core.List.{List, [], ◌∷◌}
 use native.Mathlib.Numerals.{add-one}
 use lib.ListN.{get_or}
 use Rattle.theory.specs.Layout as layout
-use Rattle.theory.specs.Layout.{node_width, fields_of_lem, lawful_field, lawful_fields, lawful_node}
+use Rattle.theory.specs.Layout.{node_width, fields_of, lawful_field, lawful_fields, lawful_node}
 use Rattle.proof_term.specs.declared.Field.{Field}
 use Rattle.proof_term.specs.declared.Fields.{Fields}
 use Rattle.proof_term.specs.declared.Fields.TheVariants.{Held, Refused}
@@ -34,7 +34,7 @@ module _ (names : List (List ℕ)) (count : ℕ) (t : List ℕ) (i : ℕ) where
       false ≡ lawful_node names count t i
   unfolding lawful_node
   kind_refused e h f =
-      let q : fields_of_lem (get_or t (i * node_width) 0) ≡ none = ap fields_of_lem (sym h) ∙ sym e.layout ∙ ap fields_as f in
+      let q : fields_of (get_or t (i * node_width) 0) ≡ none = ap fields_of (sym h) ∙ sym e.layout ∙ ap fields_as f in
       rw (q, lawful_node)
 
   -- the five fields, each number at its own sum
@@ -59,6 +59,6 @@ module _ (names : List (List ℕ)) (count : ℕ) (t : List ℕ) (i : ℕ) where
       ((((x₁ && x₂) && x₃) && x₄) && x₅) ≡ lawful_node names count t i
   unfolding lawful_node
   node_judged {r} {k} {start} {end} {a} {b} {c} {d} {e} h l f h₁ h₂ h₃ h₄ h₅ =
-      let q : fields_of_lem (get_or t (i * node_width) 0) ≡ some (field_as a ∷ field_as b ∷ field_as c ∷ field_as d ∷ field_as e ∷ []) =
-      ap fields_of_lem (sym l) ∙ sym h.layout ∙ ap fields_as f in
+      let q : fields_of (get_or t (i * node_width) 0) ≡ some (field_as a ∷ field_as b ∷ field_as c ∷ field_as d ∷ field_as e ∷ []) =
+      ap fields_of (sym l) ∙ sym h.layout ∙ ap fields_as f in
       rw (h₁, h₂, h₃, h₄, h₅) (rw (q, lawful_node) (fields_judged (field_as a) (field_as b) (field_as c) (field_as d) (field_as e)))

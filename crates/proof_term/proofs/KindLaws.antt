@@ -5,7 +5,7 @@ use mathlib.Core.List.{List, [], ◌∷◌}
 use native.Mathlib.Omega.{arith}
 use lib.ListN.{length, take, drop, length-drop}
 use lib.Seq.{length-take-le}
-use Rattle.theory.specs.Layout.{fields_of_lem}
+use Rattle.theory.specs.Layout.{fields_of}
 use Rattle.theory.specs.Text.{bytes}
 use Rattle.proof_term.specs.declared.Field.{Field}
 use Rattle.proof_term.specs.declared.Fields.{Fields}
@@ -28,7 +28,7 @@ pub word_inside : {r : Fields} {k start end : ℕ} {a b c d e : Field} → Settl
 word_inside h s = subst WordIn s h.inside
 
 -- a number that is kind n is settled as n is
-pub settled : {r : Fields} {k n : ℕ} → k ≡ n → fields_as r ≡ fields_of_lem n → word_as r ≡ keyword n → WordIn r → Settles r k
+pub settled : {r : Fields} {k n : ℕ} → k ≡ n → fields_as r ≡ fields_of n → word_as r ≡ keyword n → WordIn r → Settles r k
 settled {r} e f w i = subst (Settles r) (sym e) (record { layout = f; printing = w; inside = i })
 
 -- none of these numbers
@@ -38,7 +38,7 @@ Apart (n ∷ ns) k = Apart ns k × (k ≡ n → ⊥)
 
 -- a number that is none of the twelve kinds is refused
 pub no_kind : (k : ℕ) → Apart (12 ∷ 11 ∷ 10 ∷ 9 ∷ 8 ∷ 7 ∷ 5 ∷ 4 ∷ 3 ∷ 2 ∷ 1 ∷ 0 ∷ []) k → Settles Refused k
-unfolding fields_of_lem keyword keywords
+unfolding fields_of keyword keywords
 no_kind zero o = absurd (o.0.0.0.0.0.0.0.0.0.0.0.1 refl)
 no_kind (suc zero) o = absurd (o.0.0.0.0.0.0.0.0.0.0.1 refl)
 no_kind (suc (suc zero)) o = absurd (o.0.0.0.0.0.0.0.0.0.1 refl)

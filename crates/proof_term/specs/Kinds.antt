@@ -2,7 +2,7 @@
 use Rattle.std.specs.Prelude.{ℕ, ◌-◌, ◌≤◌, ◌≡◌, List, [], ◌∷◌, get_or, take, drop}
 use Rattle.std.proofs.Math.Option.{Option, none, some}
 use Rattle.theory.specs.Layout as layout
-use Rattle.theory.specs.Layout.{fields_of_lem}
+use Rattle.theory.specs.Layout.{fields_of}
 use Rattle.theory.specs.Text.{bytes}
 use Rattle.proof_term.specs.declared.Field as declared-field
 use Rattle.proof_term.specs.declared.Field.TheVariants.{Name, Child, Formula, Unused}
@@ -46,6 +46,6 @@ WordIn Refused = Unit {0}
 
 -- "one decision over kind numbers 0 to 13 .. settles layout checking and printing"
 pub record Settles (r : Fields) (kind : ℕ) : Type 0 where
-  pub layout : fields_as r ≡ fields_of_lem kind
+  pub layout : fields_as r ≡ fields_of kind
   pub printing : word_as r ≡ keyword kind
   pub inside : WordIn r

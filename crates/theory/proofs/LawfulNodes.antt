@@ -11,7 +11,7 @@ use borrow.Author.Tests.{lt-ltb, le-ltb, le-leb, lt-leb}
 use lib.ListN.{length, get_or, take, drop}
 use lib.Seq.{take-add, drop-drop}
 use Rattle.theory.specs.Term.{six_of, six}
-use Rattle.theory.specs.Layout.{node_width, Field, name, child, formula, unused, fields_of_lem, lawful_name, lawful_field, lawful_fields}
+use Rattle.theory.specs.Layout.{node_width, Field, name, child, formula, unused, fields_of, lawful_name, lawful_field, lawful_fields}
 use Rattle.theory.specs.Layout.{lawful_node, bad_node_from, bad_term, piece_of, piece_at, nodes_from, nodes_in, in_numbers}
 use Rattle.theory.specs.Names.{skipped, among, spell}
 use Rattle.theory.specs.NameText.{last_index}
@@ -27,7 +27,7 @@ lawful_numbers names count i (f ∷ fs) (x ∷ xs) = lawful_field names count i 
 -- a node judged over its numbers, the kind first
 abbrev pub lawful_six : List (List ℕ) → ℕ → ℕ → List ℕ → Bool
 lawful_six names count i [] = false
-lawful_six names count i (k ∷ xs) = elim (fields_of_lem k) [ none ↦ false | some fs ↦ lawful_numbers names count i fs xs ]
+lawful_six names count i (k ∷ xs) = elim (fields_of k) [ none ↦ false | some fs ↦ lawful_numbers names count i fs xs ]
 
 -- reading the fields one by one judges the same numbers
 fields_numbers : (names : List (List ℕ)) (count i : ℕ) (t : List ℕ) (at : ℕ) (fs : List Field) →
@@ -42,8 +42,8 @@ Five : Option (List Field) → Type 0
 Five none = Unit {0}
 Five (some fs) = length fs ≡ 5
 
-five : (k : ℕ) → Five (fields_of_lem k)
-unfolding fields_of_lem Five
+five : (k : ℕ) → Five (fields_of k)
+unfolding fields_of Five
 five zero = refl
 five (suc zero) = refl
 five (suc (suc zero)) = refl
@@ -63,7 +63,7 @@ five (suc (suc (suc (suc (suc (suc (suc (suc (suc (suc (suc (suc (suc k)))))))))
 pub node_numbers : (names : List (List ℕ)) (count : ℕ) (t : List ℕ) (i : ℕ) →
     lawful_node names count t i ≡ lawful_six names count i (numbers_at t (i * node_width) node_width)
 unfolding lawful_node Five
-node_numbers names count t i = go (fields_of_lem (get_or t (i * node_width) 0)) (five (get_or t (i * node_width) 0))
+node_numbers names count t i = go (fields_of (get_or t (i * node_width) 0)) (five (get_or t (i * node_width) 0))
   where
     at : ℕ
     at = suc (i * node_width)
@@ -107,17 +107,17 @@ zeros names count i (f ∷ fs) (x ∷ xs) h =
     let b : Bool = lawful_numbers names count i fs xs in
     (zero_in names count i f x (and_left a b h), zeros names count i fs xs (and_right a b h))
 
-zeros_of : (names : List (List ℕ)) (count i k : ℕ) (xs : List ℕ) → T (lawful_six names count i (k ∷ xs)) → ZerosOf (fields_of_lem k) xs
-zeros_of names count i k xs h = go (fields_of_lem k) h
+zeros_of : (names : List (List ℕ)) (count i k : ℕ) (xs : List ℕ) → T (lawful_six names count i (k ∷ xs)) → ZerosOf (fields_of k) xs
+zeros_of names count i k xs h = go (fields_of k) h
   where
     go : (o : Option (List Field)) → T (elim o [ none ↦ false | some fs ↦ lawful_numbers names count i fs xs ]) → ZerosOf o xs
     go none h = h
     go (some fs) h = zeros names count i fs xs h
 
 -- so six numbers of a kind are those of its piece
-six_of_zeros : (k a b c d e : ℕ) → ZerosOf (fields_of_lem k) (a ∷ b ∷ c ∷ d ∷ e ∷ []) →
+six_of_zeros : (k a b c d e : ℕ) → ZerosOf (fields_of k) (a ∷ b ∷ c ∷ d ∷ e ∷ []) →
     six_of (piece_of k a b c d e) ≡ k ∷ a ∷ b ∷ c ∷ d ∷ e ∷ []
-unfolding six_of piece_of fields_of_lem
+unfolding six_of piece_of fields_of
 six_of_zeros zero a b c d e z = cc
 six_of_zeros (suc zero) a b c d e z = cc
 six_of_zeros (suc (suc zero)) a b c d e z = cc

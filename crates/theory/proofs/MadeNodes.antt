@@ -10,7 +10,7 @@ use borrow.Author.Tests.{lt-ltb}
 use lib.ListN.{length}
 use Rattle.theory.specs.Term.{Piece, ident, pair, fst, snd, fn, app, inl, inr, case, abort, asc, unit, six_of, six}
 use Rattle.theory.specs.Term.{Node, NodeIn, NodesFrom, NamesHave, AllNamesHave}
-use Rattle.theory.specs.Layout.{node_width, fields_of_lem, lawful_name, lawful_field}
+use Rattle.theory.specs.Layout.{node_width, fields_of, lawful_name, lawful_field}
 use Rattle.theory.specs.Layout.{lawful_node, bad_node_from, bad_term, in_numbers}
 use Rattle.theory.specs.Names.{GoodName, of_assumption, generated, skipped}
 use Rattle.theory.proofs.LayoutLaws.{numbers_at, numbers_between, six_length}
@@ -27,7 +27,7 @@ two_below x n y k h l = rw (lt-ltb x n h, lt-ltb y k l)
 -- a piece whose children, formula and names are in range is lawful
 module _ (names : List (List ℕ)) (P : ℕ → Type 0) (good : (x : ℕ) → P x → lawful_name names x ≡ true) (m i : ℕ) where
   piece_lawful : (p : Piece) → NodeIn m i p → NamesHave P p → lawful_six names m i (six_of p) ≡ true
-  unfolding six_of fields_of_lem lawful_field
+  unfolding six_of fields_of lawful_field
   piece_lawful (ident x) h n = rw (good x n)
   piece_lawful (pair s t) h n = two_below s i t i h.0 h.1
   piece_lawful (fst t) h n = one_below t i h

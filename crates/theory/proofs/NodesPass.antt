@@ -10,7 +10,7 @@ use lib.ListN.{length, get_or}
 use Rattle.theory.specs.Term.{Piece, NodeIn, NodesFrom, NamesHave, AllNamesHave}
 use Rattle.theory.specs.Names.{spell, among, skipped, GoodName, of_assumption, generated}
 use Rattle.theory.specs.NameText.{last_index}
-use Rattle.theory.specs.Layout.{node_width, Field, name, child, formula, unused, fields_of_lem, lawful_name, lawful_field, lawful_fields}
+use Rattle.theory.specs.Layout.{node_width, Field, name, child, formula, unused, fields_of, lawful_name, lawful_field, lawful_fields}
 use Rattle.theory.specs.Layout.{lawful_node, bad_node_from, bad_term, piece_of, piece_at, nodes_from, nodes_in}
 use Rattle.theory.proofs.Tests.{and_left, and_right}
 use Rattle.theory.proofs.LayoutLaws.{piece_numbers}
@@ -79,9 +79,9 @@ module _ (names : List (List ℕ)) where
         (get_or t (suc (suc (suc (suc at)))) 0)
 
     -- the kinds one by one
-    lawful_piece : (k at : ℕ) → T (elim (fields_of_lem k) as (λ o. Bool) [ none ↦ false | some fs ↦ lawful_fields names count i t at fs ]) →
+    lawful_piece : (k at : ℕ) → T (elim (fields_of k) as (λ o. Bool) [ none ↦ false | some fs ↦ lawful_fields names count i t at fs ]) →
         NodeIn count i (piece_from k at) × NamesHave Lawful (piece_from k at)
-    unfolding fields_of_lem piece_of
+    unfolding fields_of piece_of
     lawful_piece zero at p = let f = facts at _ p in (tt, f.0)
     lawful_piece (suc zero) at p = let f = facts at _ p in ((f.0, f.1.0), tt)
     lawful_piece (suc (suc zero)) at p = let f = facts at _ p in (f.0, tt)

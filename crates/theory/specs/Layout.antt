@@ -17,22 +17,22 @@ pub data Field : Type 0 where
   unused : Field
 
 -- "one decision over kind numbers 0 to 13, with 6, 13 and everything above refused": what the five fields of a kind hold
-unfoldable pub fields_of_lem : ℕ → Option (List Field)
-fields_of_lem zero = some (name ∷ unused ∷ unused ∷ unused ∷ unused ∷ [])
-fields_of_lem (suc zero) = some (child ∷ child ∷ unused ∷ unused ∷ unused ∷ [])
-fields_of_lem (suc (suc zero)) = some (child ∷ unused ∷ unused ∷ unused ∷ unused ∷ [])
-fields_of_lem (suc (suc (suc zero))) = some (child ∷ unused ∷ unused ∷ unused ∷ unused ∷ [])
-fields_of_lem (suc (suc (suc (suc zero)))) = some (name ∷ child ∷ unused ∷ unused ∷ unused ∷ [])
-fields_of_lem (suc (suc (suc (suc (suc zero))))) = some (child ∷ child ∷ unused ∷ unused ∷ unused ∷ [])
-fields_of_lem (suc (suc (suc (suc (suc (suc zero)))))) = none
-fields_of_lem (suc (suc (suc (suc (suc (suc (suc zero))))))) = some (child ∷ unused ∷ unused ∷ unused ∷ unused ∷ [])
-fields_of_lem (suc (suc (suc (suc (suc (suc (suc (suc zero)))))))) = some (child ∷ unused ∷ unused ∷ unused ∷ unused ∷ [])
-fields_of_lem (suc (suc (suc (suc (suc (suc (suc (suc (suc zero))))))))) = some (child ∷ name ∷ child ∷ name ∷ child ∷ [])
-fields_of_lem (suc (suc (suc (suc (suc (suc (suc (suc (suc (suc zero)))))))))) = some (child ∷ unused ∷ unused ∷ unused ∷ unused ∷ [])
-fields_of_lem (suc (suc (suc (suc (suc (suc (suc (suc (suc (suc (suc zero))))))))))) = some (child ∷ formula ∷ unused ∷ unused ∷ unused ∷ [])
-fields_of_lem (suc (suc (suc (suc (suc (suc (suc (suc (suc (suc (suc (suc zero)))))))))))) =
+unfoldable pub fields_of : ℕ → Option (List Field)
+fields_of zero = some (name ∷ unused ∷ unused ∷ unused ∷ unused ∷ [])
+fields_of (suc zero) = some (child ∷ child ∷ unused ∷ unused ∷ unused ∷ [])
+fields_of (suc (suc zero)) = some (child ∷ unused ∷ unused ∷ unused ∷ unused ∷ [])
+fields_of (suc (suc (suc zero))) = some (child ∷ unused ∷ unused ∷ unused ∷ unused ∷ [])
+fields_of (suc (suc (suc (suc zero)))) = some (name ∷ child ∷ unused ∷ unused ∷ unused ∷ [])
+fields_of (suc (suc (suc (suc (suc zero))))) = some (child ∷ child ∷ unused ∷ unused ∷ unused ∷ [])
+fields_of (suc (suc (suc (suc (suc (suc zero)))))) = none
+fields_of (suc (suc (suc (suc (suc (suc (suc zero))))))) = some (child ∷ unused ∷ unused ∷ unused ∷ unused ∷ [])
+fields_of (suc (suc (suc (suc (suc (suc (suc (suc zero)))))))) = some (child ∷ unused ∷ unused ∷ unused ∷ unused ∷ [])
+fields_of (suc (suc (suc (suc (suc (suc (suc (suc (suc zero))))))))) = some (child ∷ name ∷ child ∷ name ∷ child ∷ [])
+fields_of (suc (suc (suc (suc (suc (suc (suc (suc (suc (suc zero)))))))))) = some (child ∷ unused ∷ unused ∷ unused ∷ unused ∷ [])
+fields_of (suc (suc (suc (suc (suc (suc (suc (suc (suc (suc (suc zero))))))))))) = some (child ∷ formula ∷ unused ∷ unused ∷ unused ∷ [])
+fields_of (suc (suc (suc (suc (suc (suc (suc (suc (suc (suc (suc (suc zero)))))))))))) =
     some (unused ∷ unused ∷ unused ∷ unused ∷ unused ∷ [])
-fields_of_lem (suc (suc (suc (suc (suc (suc (suc (suc (suc (suc (suc (suc (suc k))))))))))))) = none
+fields_of (suc (suc (suc (suc (suc (suc (suc (suc (suc (suc (suc (suc (suc k))))))))))))) = none
 
 -- "Name i below 64 must be an assumption's number; 64+g is generated index g, at most 4,095 and never spelled like an assumption"
 unfoldable pub lawful_name : List (List ℕ) → ℕ → Bool
@@ -57,7 +57,7 @@ lawful_fields names count i t at (f ∷ fs) = lawful_field names count i f (get_
 
 unfoldable pub lawful_node : List (List ℕ) → ℕ → List ℕ → ℕ → Bool
 lawful_node names count t i =
-    elim (fields_of_lem (get_or t (i * node_width) 0)) [
+    elim (fields_of (get_or t (i * node_width) 0)) [
       | none ↦ false
       | some fs ↦ lawful_fields names count i t (suc (i * node_width)) fs
     ]
