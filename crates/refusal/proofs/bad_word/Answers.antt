@@ -27,20 +27,20 @@ unfolding place_of
 returns-then-not-laid_out c =
         let a = c.args in
     let inside = c.loop-i-test.true in
-    let bad = broken a.words.now c.loop-i.i inside (sym c.laid_out.ensures ∙ not-true _ c.if-not-laid_out.true) in
+    let bad = broken a.words.now c.loop-i.i inside (sym c.laid_out.ensures ∙ c.if-not-laid_out.true) in
     sym (onward_bad a.words.now a.count c.loop-i.i inside c.if-count-i.false bad) ∙ c.loop-i.invariant.1
 
 pub agrees-requires : goal.agrees-requires
 agrees-requires c =
-    c.loop-i.invariant.2.long
+    record { table = c.loop-i.invariant.2.long }
 
 pub returns-then-not-agrees : goal.returns-then-not-agrees
 unfolding place_of
 returns-then-not-agrees c =
         let a = c.args in
     let inside = c.loop-i-test.true in
-        let laid = sym c.laid_out.ensures ∙ not-false _ c.if-not-laid_out.false in
-    let differs = sym c.agrees.ensures.answer ∙ not-true _ c.if-not-agrees.true in
+        let laid = sym c.laid_out.ensures ∙ c.if-not-laid_out.false in
+    let differs = sym c.agrees.ensures.answer ∙ c.if-not-agrees.true in
     let bad = decides a.words.now c.loop-i.i inside c.loop-i.invariant.2 laid differs in
     let given = c.if-count-i.false in
     sym (onward_bad a.words.now a.count c.loop-i.i inside given bad) ∙ c.loop-i.invariant.1
@@ -57,8 +57,8 @@ pub loop-i-preserved : goal.loop-i-preserved
 loop-i-preserved c =
         let a = c.args in
     let inside = c.loop-i-test.true in
-        let laid = sym c.laid_out.ensures ∙ not-false _ c.if-not-laid_out.false in
-    let agreed = sym c.agrees.ensures.answer ∙ not-false _ c.if-not-agrees.false in
+        let laid = sym c.laid_out.ensures ∙ c.if-not-laid_out.false in
+    let agreed = sym c.agrees.ensures.answer ∙ c.if-not-agrees.false in
     let good = decides a.words.now c.loop-i.i inside c.loop-i.invariant.2 laid agreed in
     let given = c.if-count-i.false in (
       omega arith,
