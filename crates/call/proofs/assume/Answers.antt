@@ -24,7 +24,7 @@ unfolding six_of
 loop-i-preserved c =
     let p = c.push-sequent.ensures in
             seating_goes _ _ _ _ c.loop-i.invariant c.loop-i-test.true c.assumption.ensures c.put.ensures
-    p.1 p.0
+    p.work p.result
 
 pub shape_of-terms : goal.shape_of-terms
 shape_of-terms c =

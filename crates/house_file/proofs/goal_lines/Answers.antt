@@ -23,24 +23,24 @@ abbrev named : tie.After-search-claim → tie.After-fill-names
 named c = c.before.before.before.before.before.before.before
 
 -- the names are the front of their array
-names-inside : (c : After-fill_names-size) → c.fill_names-size.result ≤ length c.fill_names-size.new.1.1.1.0
+names-inside : (c : After-fill_names-size) → c.fill_names-size.result ≤ length c.fill_names-size.new.text
 names-inside c =
     let args = (starts (worded c)).args in
     laid_inside c.fill_names-size.result (text_from args.assumptions (drop (4 + 4 * args.formulas) args.file.now))
-    args.names.now c.fill_names-size.new.1.1.1.0 c.fill_names-size.ensures.text c.fill_names-size.ensures.length
+    args.names.now c.fill_names-size.new.text c.fill_names-size.ensures.text c.fill_names-size.ensures.length
 
 names-sized : (c : After-fill_names-size) →
-    c.fill_names-size.result ≡ length (take c.fill_names-size.result c.fill_names-size.new.1.1.1.0)
+    c.fill_names-size.result ≡ length (take c.fill_names-size.result c.fill_names-size.new.text)
 names-sized c =
     let args = (starts (worded c)).args in
     laid_size c.fill_names-size.result (text_from args.assumptions (drop (4 + 4 * args.formulas) args.file.now))
-    args.names.now c.fill_names-size.new.1.1.1.0 c.fill_names-size.ensures.text c.fill_names-size.ensures.length
+    args.names.now c.fill_names-size.new.text c.fill_names-size.ensures.text c.fill_names-size.ensures.length
 
 -- what the search answered, over the arrays as they were filled
 answered : (c : After-search_claim-outcome) →
     Settled (starts (worded (named c))).args.formulas (starts (worded (named c))).args.assumptions
     (starts (worded (named c))).args.goal (starts (worded (named c))).args.file.now c.search_claim-outcome.result
-    c.search_claim-outcome.new.0 c.search_claim-outcome.new.1.1.1.1.1.0
+    c.search_claim-outcome.new.words c.search_claim-outcome.new.terms
     (take (named c).fill-names.result (named c).fill-names.last.1.1.1.0)
 answered c =
     let names = (named c).fill-names in
@@ -50,7 +50,7 @@ answered c =
     let args = start.args in
     settled args.formulas args.assumptions args.goal args.file.now args.words.now words.last.1.1.0
     args.indices.now indices.last.1.1.1.0 args.names.now names.last.1.1.1.0 names.result
-    args.terms.now c.search_claim-outcome.new.0 c.search_claim-outcome.new.1.1.1.1.1.0 c.search_claim-outcome.result start.pre.1.0
+    args.terms.now c.search_claim-outcome.new.words c.search_claim-outcome.new.terms c.search_claim-outcome.result start.pre.1.0
     start.pre.1.1.0 start.pre.1.1.1.1.1.0 words.ensures indices.ensures names.ensures.0 names.ensures.1
     c.search_claim-outcome.ensures
 
@@ -62,7 +62,7 @@ pub slice_bounds-search_claim-end-2 : goal.slice_bounds-search_claim-end-2
 slice_bounds-search_claim-end-2 c =
         let args = c.args in
     let entries = drop (4 + 4 * args.formulas) args.file.now in
-    laid_size args.assumptions (indices_from args.assumptions entries) args.indices.now c.fill_indices.new.1.1.1.0
+    laid_size args.assumptions (indices_from args.assumptions entries) args.indices.now c.fill_indices.new.indices
     c.fill_indices.ensures (sym (indices_many args.assumptions entries))
 
 pub slice_bounds-search_claim-end-3 : goal.slice_bounds-search_claim-end-3
@@ -96,4 +96,4 @@ pub returns : goal.returns
 returns c =
         let args = (starts (worded (named (goal.at.returns c).After-slice_known-8-1))).args in
     let s = answered (goal.at.returns c).After-slice_known-8-1 in
-    let laid = c.answer_lines in record { out = laid.ensures.0 ∙ ap (padded (length args.out.now)) s.lines; length = laid.ensures.1 ∙ ap length s.lines }
+    let laid = c.answer_lines in record { out = laid.ensures.out ∙ ap (padded (length args.out.now)) s.lines; length = laid.ensures.length ∙ ap length s.lines }

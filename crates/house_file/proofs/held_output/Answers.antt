@@ -15,4 +15,4 @@ pub returns : goal.returns
 returns c =
         let args = c.args in
     let laid = c.goal_lines in
-    let lines = printed_goal args.formulas args.assumptions args.goal args.file.now c.requires.tested in record { out = laid.ensures.0 ∙ ap (padded (length args.out.now)) (sym lines); length = laid.ensures.1 ∙ ap length (sym lines) }
+    let lines = printed_goal args.formulas args.assumptions args.goal args.file.now c.requires.tested in record { out = laid.ensures.out ∙ ap (padded (length args.out.now)) (sym lines); length = laid.ensures.length ∙ ap length (sym lines) }

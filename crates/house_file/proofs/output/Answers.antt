@@ -25,13 +25,13 @@ held_output-requires c =
         let bs = c.args.file.now in
     let held = c.formulas-1.given in
     let tested = c.test_file in record { tested = is_decoded held.0.0 held.0.1.0 held.0.1.1.0 bs
-          (ap (λ (s : Sections). held_by s bs) (sym held.1) ∙ tested.ensures.0); seen = subst (λ (s : Sections). Fits s bs) held.1 tested.ensures.1; room = omega arith }
+          (ap (λ (s : Sections). held_by s bs) (sym held.1) ∙ tested.ensures.held); seen = subst (λ (s : Sections). Fits s bs) held.1 tested.ensures.fits; room = omega arith }
 
 pub returns-in-BadFile : goal.returns-in-BadFile
 returns-in-BadFile c =
         let bs = c.args.file.now in
     let tested = c.test_file in
-    let bad = printed_bad bs (ap (λ (s : Sections). held_by s bs) (sym c.in-BadFile.is) ∙ tested.ensures.0) in
+    let bad = printed_bad bs (ap (λ (s : Sections). held_by s bs) (sym c.in-BadFile.is) ∙ tested.ensures.held) in
     let room : length c.args.out.now ≡ 32835 = omega arith in record { out = c.refused.ensures.out ∙ ap₂ padded room (sym bad); length = c.refused.ensures.length ∙ ap length (sym bad) }
 
 pub returns-in-Held : goal.returns-in-Held

@@ -50,7 +50,7 @@ returns-then-number-eq0 c =
     let proved = c.proved in
     let lines = lines_written (lent (goal.at.returns-then-number-eq0 c).After-write_text-size) c.write_text-size.result (numberLeft (goal.at.returns-then-number-eq0 c).After-write_text-size) (textLeft (goal.at.returns-then-number-eq0 c).After-write_text-size) c.write_text-size.ensures.written args.steps
     args.indices args.formulas args.nodes
-    c.if-number-eq0.true in record { out = proved.ensures.0 ∙ ap (padded (length args.out.now)) (sym lines); length = proved.ensures.1 ∙ ap length (sym lines) }
+    c.if-number-eq0.true in record { out = proved.ensures.out ∙ ap (padded (length args.out.now)) (sym lines); length = proved.ensures.length ∙ ap length (sym lines) }
 
 pub refused-requires : goal.refused-requires
 refused-requires c =
@@ -66,4 +66,4 @@ returns c =
     let refused = c.refused in
     let lines = lines_refused (lent (goal.at.returns c).After-write_text-size) c.write_text-size.result (numberLeft (goal.at.returns c).After-write_text-size) (textLeft (goal.at.returns c).After-write_text-size) c.write_text-size.ensures.written args.steps
     args.indices args.formulas args.nodes
-    c.if-number-eq0.false in record { out = refused.ensures.0 ∙ ap (padded (length args.out.now)) (sym lines); length = refused.ensures.1 ∙ ap length (sym lines) }
+    c.if-number-eq0.false in record { out = refused.ensures.out ∙ ap (padded (length args.out.now)) (sym lines); length = refused.ensures.length ∙ ap length (sym lines) }

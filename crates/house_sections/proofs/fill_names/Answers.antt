@@ -77,7 +77,7 @@ loop-left-smaller c =
 pub loop-left-preserved : goal.loop-left-preserved
 loop-left-preserved c =
             name_copied c.args.file.now c.args.from c.args.count c.args.text.now c.loop-left.at
-    c.loop-left.filled c.loop-left.left c.loop-left.text c.loop-left.invariant (omega arith) c.copy.new.1.0
+    c.loop-left.filled c.loop-left.left c.loop-left.text c.loop-left.invariant (omega arith) c.copy.new.text
     c.requires.room c.copy.ensures
 
 pub shape_of-text : goal.shape_of-text

@@ -15,5 +15,5 @@ returns-then-number_at-ne1 c =
 pub returns : goal.returns
 returns c =
         let counted = c.number_at in
-    one_goal c.args.file.now c.args.at c.if-file-at-ne4.false counted.result counted.ensures.0
+    one_goal c.args.file.now c.args.at c.if-file-at-ne4.false counted.result counted.ensures.result
     c.number_at-2.result c.if-number_at-ne1.false c.number_at-2.ensures.result

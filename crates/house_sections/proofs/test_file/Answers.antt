@@ -16,13 +16,13 @@ returns-then-file-lt2 c =
 pub returns-then-formulas-gt-MOST_FORMULAS : goal.returns-then-formulas-gt-MOST_FORMULAS
 returns-then-formulas-gt-MOST_FORMULAS c =
             let file = c.args.file.now in
-    let formulas = c.number_at-formulas in record { held = bad_file file (many_formulas file c.if-file-gt-MOST_BYTES.false formulas.result c.if-file-lt2.false formulas.ensures.0 c.if-formulas-gt-MOST_FORMULAS.true); fits = tt }
+    let formulas = c.number_at-formulas in record { held = bad_file file (many_formulas file c.if-file-gt-MOST_BYTES.false formulas.result c.if-file-lt2.false formulas.ensures.result c.if-formulas-gt-MOST_FORMULAS.true); fits = tt }
 
 pub returns-then-file-first : goal.returns-then-file-first
 returns-then-file-first c =
                 let file = c.args.file.now in
     let formulas = c.number_at-formulas in record { held = bad_file file
-          (cut_formulas file c.if-file-gt-MOST_BYTES.false formulas.result c.if-file-lt2.false formulas.ensures.0 c.if-formulas-gt-MOST_FORMULAS.false
+          (cut_formulas file c.if-file-gt-MOST_BYTES.false formulas.result c.if-file-lt2.false formulas.ensures.result c.if-formulas-gt-MOST_FORMULAS.false
           c.if-file-first.true); fits = tt }
 
 pub returns-then-assumptions-gt-MOST_ASSUMPTIONS : goal.returns-then-assumptions-gt-MOST_ASSUMPTIONS
@@ -30,16 +30,16 @@ returns-then-assumptions-gt-MOST_ASSUMPTIONS c =
                     let file = c.args.file.now in
     let formulas = c.number_at-formulas in
     let assumptions = c.number_at-assumptions in record { held = bad_file file
-          (many_assumptions file c.if-file-gt-MOST_BYTES.false formulas.result c.if-file-lt2.false formulas.ensures.0 c.if-formulas-gt-MOST_FORMULAS.false
-          assumptions.result c.if-file-first.false assumptions.ensures.0 c.if-assumptions-gt-MOST_ASSUMPTIONS.true); fits = tt }
+          (many_assumptions file c.if-file-gt-MOST_BYTES.false formulas.result c.if-file-lt2.false formulas.ensures.result c.if-formulas-gt-MOST_FORMULAS.false
+          assumptions.result c.if-file-first.false assumptions.ensures.result c.if-assumptions-gt-MOST_ASSUMPTIONS.true); fits = tt }
 
 pub goal_at-requires : goal.goal_at-requires
 goal_at-requires c =
                         let file = c.args.file.now in
     let formulas = c.number_at-formulas in
     let assumptions = c.number_at-assumptions in
-    at_inside file c.if-file-gt-MOST_BYTES.false formulas.result c.if-file-lt2.false formulas.ensures.0 c.if-formulas-gt-MOST_FORMULAS.false assumptions.result
-    c.if-file-first.false assumptions.ensures.0 c.if-assumptions-gt-MOST_ASSUMPTIONS.false c.in-At.at
+    at_inside file c.if-file-gt-MOST_BYTES.false formulas.result c.if-file-lt2.false formulas.ensures.result c.if-formulas-gt-MOST_FORMULAS.false assumptions.result
+    c.if-file-first.false assumptions.ensures.result c.if-assumptions-gt-MOST_ASSUMPTIONS.false c.in-At.at
     (sym c.in-At.is ∙ c.entries_end.ensures)
 
 pub returns-in-Cut : goal.returns-in-Cut
@@ -47,8 +47,8 @@ returns-in-Cut c =
                         let file = c.args.file.now in
     let formulas = c.number_at-formulas in
     let assumptions = c.number_at-assumptions in record { held = bad_file file
-          (cut_assumptions_lem file c.if-file-gt-MOST_BYTES.false formulas.result c.if-file-lt2.false formulas.ensures.0 c.if-formulas-gt-MOST_FORMULAS.false
-          assumptions.result c.if-file-first.false assumptions.ensures.0 c.if-assumptions-gt-MOST_ASSUMPTIONS.false
+          (cut_assumptions_lem file c.if-file-gt-MOST_BYTES.false formulas.result c.if-file-lt2.false formulas.ensures.result c.if-formulas-gt-MOST_FORMULAS.false
+          assumptions.result c.if-file-first.false assumptions.ensures.result c.if-assumptions-gt-MOST_ASSUMPTIONS.false
           (sym c.in-Cut.is ∙ c.entries_end.ensures)); fits = tt }
 
 pub returns-in-Missing : goal.returns-in-Missing
@@ -56,8 +56,8 @@ returns-in-Missing c =
                         let file = c.args.file.now in
     let formulas = c.number_at-formulas in
     let assumptions = c.number_at-assumptions in record { held = bad_file file
-          (no_goal file c.if-file-gt-MOST_BYTES.false formulas.result c.if-file-lt2.false formulas.ensures.0 c.if-formulas-gt-MOST_FORMULAS.false
-          assumptions.result c.if-file-first.false assumptions.ensures.0 c.if-assumptions-gt-MOST_ASSUMPTIONS.false c.in-At.at
+          (no_goal file c.if-file-gt-MOST_BYTES.false formulas.result c.if-file-lt2.false formulas.ensures.result c.if-formulas-gt-MOST_FORMULAS.false
+          assumptions.result c.if-file-first.false assumptions.ensures.result c.if-assumptions-gt-MOST_ASSUMPTIONS.false c.in-At.at
           (sym c.in-At.is ∙ c.entries_end.ensures)
           (sym c.in-Missing.is ∙ c.goal_at.ensures)); fits = tt }
 
@@ -66,7 +66,7 @@ returns-in-Index c =
                         let file = c.args.file.now in
     let formulas = c.number_at-formulas in
     let assumptions = c.number_at-assumptions in
-        let end = sym c.in-At.is ∙ c.entries_end.ensures in record { held = is_held file c.if-file-gt-MOST_BYTES.false formulas.result c.if-file-lt2.false formulas.ensures.0 c.if-formulas-gt-MOST_FORMULAS.false
-          assumptions.result c.if-file-first.false assumptions.ensures.0 c.if-assumptions-gt-MOST_ASSUMPTIONS.false c.in-At.at end
-          c.in-Index.goal (sym c.in-Index.is ∙ c.goal_at.ensures); fits = is_seen file c.if-file-gt-MOST_BYTES.false formulas.result c.if-file-lt2.false formulas.ensures.0 c.if-formulas-gt-MOST_FORMULAS.false
-          assumptions.result c.if-file-first.false assumptions.ensures.0 c.if-assumptions-gt-MOST_ASSUMPTIONS.false c.in-At.at end }
+        let end = sym c.in-At.is ∙ c.entries_end.ensures in record { held = is_held file c.if-file-gt-MOST_BYTES.false formulas.result c.if-file-lt2.false formulas.ensures.result c.if-formulas-gt-MOST_FORMULAS.false
+          assumptions.result c.if-file-first.false assumptions.ensures.result c.if-assumptions-gt-MOST_ASSUMPTIONS.false c.in-At.at end
+          c.in-Index.goal (sym c.in-Index.is ∙ c.goal_at.ensures); fits = is_seen file c.if-file-gt-MOST_BYTES.false formulas.result c.if-file-lt2.false formulas.ensures.result c.if-formulas-gt-MOST_FORMULAS.false
+          assumptions.result c.if-file-first.false assumptions.ensures.result c.if-assumptions-gt-MOST_ASSUMPTIONS.false c.in-At.at end }

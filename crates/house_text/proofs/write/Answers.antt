@@ -22,6 +22,6 @@ pub returns : goal.returns
 returns c =
             let hands = c.write_text-n.ensures in record { written = record {
         front_is = refl;
-        part_is = front_is_part (written_front (lent (goal.at.returns c).Start)) hands.0;
-        number_is = hands.0.number_is;
-      }; place = hands.1 }
+        part_is = front_is_part (written_front (lent (goal.at.returns c).Start)) hands.written;
+        number_is = hands.written.number_is;
+      }; place = hands.place }

@@ -42,4 +42,4 @@ returns c =
             let begin = starts (goal.at.returns c).After-test_claim-tested in
     let h = called_closed (lent begin) begin.args.work.now c.start-answer.ensures (passed (goal.at.returns c).Else-number-ne0) in
     let e = c.closing.ensures in
-    called_same h e.0 e.1.0 e.1.1.0 e.1.1.1
+    called_same h e.result e.words e.terms e.work

@@ -28,12 +28,12 @@ assume-sequent-requires c =
 pub right-requires : goal.right-requires
 right-requires c =
             let e = c.assume-sequent.ensures in
-    let x = lent (goal.at.right-requires c).Start in record { represented = right_asks x c.args.work.now c.requires refl c.limits-limits.ensures e.1.0 e.1.1 e.0 c.if-limits-assumed.false; few = few_names x c.args.work.now c.requires refl }
+    let x = lent (goal.at.right-requires c).Start in record { represented = right_asks x c.args.work.now c.requires refl c.limits-limits.ensures e.terms e.work e.result c.if-limits-assumed.false; few = few_names x c.args.work.now c.requires refl }
 
 pub returns : goal.returns
 returns c =
             let x = lent (goal.at.returns c).Start in
     let e = c.assume-sequent.ensures in
     right_ends x c.args.work.now c.requires refl
-    c.limits-limits.ensures e.1.0 e.1.1 e.0 c.if-limits-assumed.false
+    c.limits-limits.ensures e.terms e.work e.result c.if-limits-assumed.false
     c.right.ensures

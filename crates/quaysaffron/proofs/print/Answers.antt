@@ -7,7 +7,7 @@ use Rattle.quaysaffron.proofs.print.Goals as goal
 use Rattle.quaysaffron.proofs.print.Goals.{After-output-n}
 
 -- the output is a front part of the buffer
-counts : (c : After-output-n) → IsPrefixLen c.output-n.result c.output-n.new.1.0
+counts : (c : After-output-n) → IsPrefixLen c.output-n.result c.output-n.new.out
 counts c =
     padded_counts 32835 (printed c.args.file.now) c.output-n.ensures.out c.output-n.ensures.length
 

@@ -9,13 +9,13 @@ pub returns-then-got-lt0 : goal.returns-then-got-lt0
 returns-then-got-lt0 c =
             let args = c.args in
     let buf = args.buf.now in
-    record { kept = take_put args.done (length buf - args.done) buf c.read-got.new.1.0 c.requires; behind = tt }
+    record { kept = take_put args.done (length buf - args.done) buf c.read-got.new.buf c.requires; behind = tt }
 
 pub returns : goal.returns
 returns c =
             let args = c.args in
     let buf = args.buf.now in
     record {
-      kept = take_put args.done (length buf - args.done) buf c.read-got.new.1.0 c.requires;
+      kept = take_put args.done (length buf - args.done) buf c.read-got.new.buf c.requires;
       behind = search rules;
     }

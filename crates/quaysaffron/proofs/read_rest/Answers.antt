@@ -15,10 +15,10 @@ use Rattle.quaysaffron.proofs.read_rest.Goals.{In-Bytes}
 turned : (c : In-Bytes) →
     Grown c.loop-done.done
     c.loop-done.buf (Bytes c.in-Bytes.all)
-    c.read_more-piece.new.1.0
+    c.read_more-piece.new.buf
 turned c =
         let turn = c.loop-done in
-    subst (λ (r : Input). Grown turn.done turn.buf r c.read_more-piece.new.1.0) c.in-Bytes.is
+    subst (λ (r : Input). Grown turn.done turn.buf r c.read_more-piece.new.buf) c.in-Bytes.is
     c.read_more-piece.ensures
 
 pub loop-done-init : goal.loop-done-init

@@ -7,10 +7,10 @@ use Rattle.search_leaves.proofs.Walk.{counts_start, counts_one, counts_none, cou
 use Rattle.search_leaves.proofs.count_fires.Goals as goal
 
 
-)
+    )
 
 
-)
+    )
 
 pub loop-i-init : goal.loop-i-init
 loop-i-init c =

@@ -11,10 +11,10 @@ use Rattle.search_leaves.proofs.Fall.{walk_ends, before_one}
 use Rattle.search_leaves.proofs.fire_all.Goals as goal
 
 
-)
+    )
 
 
-)
+    )
 
 pub loop-i-init : goal.loop-i-init
 loop-i-init c =

@@ -6,7 +6,7 @@ use borrow.Author.Rules.{rules}
 use Rattle.search_leaves.proofs.fire_one.Goals as goal
 
 
-)
+    )
 
 pub push-requires : goal.push-requires
 push-requires c =

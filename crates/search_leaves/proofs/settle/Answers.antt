@@ -6,7 +6,7 @@ use Rattle.search_leaves.proofs.Fall.{absent_by}
 use Rattle.search_leaves.proofs.settle.Goals as goal
 
 
-)
+    )
 
 pub returns-then-j-sequent : goal.returns-then-j-sequent
 returns-then-j-sequent c =

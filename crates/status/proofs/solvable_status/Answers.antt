@@ -25,8 +25,8 @@ returns-in-Unprovable c =
     let s = c.unproved-status.ensures in
     answered_as
     (failed_answered a.words.now a.count a.goal a.terms.now a.work.now a.steps c.search_goal.ensures
-    (sym c.in-Unprovable.is) c.unproved-status.new.0 c.unproved-status.new.1.1.1.0 s.0
-    (record { room = omega (arith, c.unproved-status.auto); given = s.1.0; numbers = omega (arith, c.unproved-status.auto) }) s.1.1)
+    (sym c.in-Unprovable.is) c.unproved-status.new.words c.unproved-status.new.terms s.result
+    (record { room = omega (arith, c.unproved-status.auto); given = s.kept; numbers = omega (arith, c.unproved-status.auto) }) s.work)
     c.clean-in-Unprovable.ensures.words c.clean-in-Unprovable.ensures.terms
 
 pub returns-in-Short : goal.returns-in-Short
