@@ -10,12 +10,6 @@ use Rattle.search_leaves.proofs.Fall.{Start, start_of, walk_starts, walk_fits, w
 use Rattle.search_leaves.proofs.Fall.{walk_ends, before_one}
 use Rattle.search_leaves.proofs.fire_all.Goals as goal
 
-
-    )
-
-
-    )
-
 pub loop-i-init : goal.loop-i-init
 loop-i-init c =
     (search rules, search rules, λ m nf base st. walk_starts st _)
@@ -42,21 +36,21 @@ overflow_sub-n c =
 
 pub fire_one-p-requires : goal.fire_one-p-requires
 fire_one-p-requires c =
-    record { places = (omega (
+    record { places = omega (
       arith,
       c.if-j-p.true,
       walk_fits
           (start_of c.requires)
           (c.loop-i.invariant.2 _ _ _
           (start_of c.requires)),
-    )).0; room = (omega (
+    ); room = omega (
       arith,
       c.if-j-p.true,
       walk_fits
           (start_of c.requires)
           (c.loop-i.invariant.2 _ _ _
           (start_of c.requires)),
-    )).1 }
+    ) }
 
 pub loop-i-preserved-then-j-p : goal.loop-i-preserved-then-j-p
 loop-i-preserved-then-j-p c =
@@ -72,6 +66,7 @@ loop-i-preserved-then-j-p c =
       c.fire_one-p.ensures.terms
       c.fire_one-p.ensures.work
       c.fire_one-p.ensures.result,
+    )
 
 pub loop-i-preserved : goal.loop-i-preserved
 loop-i-preserved c =
@@ -84,6 +79,7 @@ loop-i-preserved c =
       (before_one c.loop-i-test.true)
       c.fires-j.ensures
       c.if-j-p.false,
+    )
 
 pub returns : goal.returns
 returns c =

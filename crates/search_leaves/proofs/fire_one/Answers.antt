@@ -5,9 +5,6 @@ use Rattle.search_leaves.proofs.Walk.{room_without, node_fired, area_fired}
 use borrow.Author.Rules.{rules}
 use Rattle.search_leaves.proofs.fire_one.Goals as goal
 
-
-    )
-
 pub push-requires : goal.push-requires
 push-requires c =
     room_without
@@ -16,49 +13,14 @@ push-requires c =
 
 pub returns : goal.returns
 returns c =
-    record { result = ((
-  c.push.ensures.result ∙ ap pushed c.remove-q1.ensures.result,
-  (
-    node_fired _ _
+    record { result = c.push.ensures.result ∙ ap pushed c.remove-q1.ensures.result; terms = node_fired _ _
         c.put.ensures
         c.term_at-x.ensures
-        c.term_at-y.ensures,
-    area_fired _ _ _ _
+        c.term_at-y.ensures; work = area_fired _ _ _ _
         c.args.words.now
         _
         c.remove-q1.ensures.result
         c.remove-q1.ensures.work
         c.push.ensures.work
         c.right-b.ensures
-        c.formula_at.ensures,
-  ),).0; terms = ((
-  c.push.ensures.result ∙ ap pushed c.remove-q1.ensures.result,
-  (
-    node_fired _ _
-        c.put.ensures
-        c.term_at-x.ensures
-        c.term_at-y.ensures,
-    area_fired _ _ _ _
-        c.args.words.now
-        _
-        c.remove-q1.ensures.result
-        c.remove-q1.ensures.work
-        c.push.ensures.work
-        c.right-b.ensures
-        c.formula_at.ensures,
-  ),).1.0; work = ((
-  c.push.ensures.result ∙ ap pushed c.remove-q1.ensures.result,
-  (
-    node_fired _ _
-        c.put.ensures
-        c.term_at-x.ensures
-        c.term_at-y.ensures,
-    area_fired _ _ _ _
-        c.args.words.now
-        _
-        c.remove-q1.ensures.result
-        c.remove-q1.ensures.work
-        c.push.ensures.work
-        c.right-b.ensures
-        c.formula_at.ensures,
-  ),).1.1 }
+        c.formula_at.ensures }

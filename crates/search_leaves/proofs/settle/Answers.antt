@@ -5,9 +5,6 @@ use Rattle.search_laws.proofs.Settle.{settle_leaf}
 use Rattle.search_leaves.proofs.Fall.{absent_by}
 use Rattle.search_leaves.proofs.settle.Goals as goal
 
-
-    )
-
 pub returns-then-j-sequent : goal.returns-then-j-sequent
 returns-then-j-sequent c =
     λ taken.
@@ -19,17 +16,10 @@ returns-then-j-sequent c =
 
 pub fire-requires : goal.fire-requires
 fire-requires c =
-    record { represented = ((
-  c.requires.represented,
-  (
+    record { represented = c.requires.represented; absent = (
     c.requires.empty,
     absent_by c.goal_leaf-j.ensures c.if-j-sequent.false,
-  ),).0; absent = ((
-  c.requires.represented,
-  (
-    c.requires.empty,
-    absent_by c.goal_leaf-j.ensures c.if-j-sequent.false,
-  ),).1 }
+  ) }
 
 pub returns : goal.returns
 returns c =
