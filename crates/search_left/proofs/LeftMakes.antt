@@ -20,6 +20,8 @@ use Rattle.meter.specs.declared.Next.TheVariants.{Go, End}
 use Rattle.meter.specs.Moves.{spent, limits_of, number_of}
 use Rattle.context.specs.Moves.{pushed, popped}
 use Rattle.context.specs.Area.{Rec, rec, push_place}
+use Rattle.theory.specs.Term.{six_of}
+use Rattle.proof_term.specs.Put.{put_node}
 use Rattle.search_laws.specs.Reading.{Lent, lent, left_at, right_at, put_nodes}
 use Rattle.search_laws.specs.Keeping.{Rep}
 use Rattle.search_laws.specs.Making.{Tested, Passes}
@@ -58,7 +60,7 @@ unfolding put_nodes
 put_append t n [] rs = ap (λ (k : ℕ). put_nodes t k rs) (let e : n + 0 ≡ n = omega arith in e)
 put_append t n (p ∷ ps) rs =
     ap (λ (k : ℕ). put_nodes (put_nodes t n (p ∷ ps)) k rs) (let e : n + suc (length ps) ≡ suc n + length ps = omega arith in e)
-    ∙ put_append _ (suc n) ps rs
+    ∙ put_append (put_node t n (six_of p)) (suc n) ps rs
 
 -- inl's five nodes and then inr's
 sides_put : (t : List ℕ) (n a b x f g : ℕ) {t1 t2 : List ℕ} → t1 ≡ put_nodes t n (composed n a (inl n) x f) →

@@ -41,7 +41,7 @@ arrow-requires-2 c =
 pub curried-requires : goal.curried-requires
 curried-requires c =
                         let o = curry_room (skipped (names_in c.args.names.now)) c.requires.represented c.fresh-first.ensures c.fresh-second.ensures c.requires.last
-    c.lack-n.ensures c.if-n-ne0.left in
+    c.lack-n.ensures c.if-n-ne0.false in
     (omega arith, o.2, o.3)
 
 pub pop-rest-requires : goal.pop-rest-requires
@@ -55,7 +55,7 @@ push-q1-requires c =
 pub spend-requires : goal.spend-requires
 spend-requires c =
                         let o = curry_room (skipped (names_in c.args.names.now)) c.requires.represented c.fresh-first.ensures c.fresh-second.ensures c.requires.last
-    c.lack-n.ensures c.if-n-ne0.left in
+    c.lack-n.ensures c.if-n-ne0.false in
     (o.0, o.1)
 
 pub returns : goal.returns

@@ -25,7 +25,7 @@ pub spend-requires : goal.spend-requires
 spend-requires c =
                 let r = spend_room c.requires.represented c.args.state.indices c.args.state.formulas (c.args.state.terms + 2)
     (c.args.sequent.unordered + c.args.sequent.ordered + 1)
-    c.lack-n.ensures c.if-n-ne0.left in omega arith
+    c.lack-n.ensures c.if-n-ne0.false in omega arith
 
 pub returns : goal.returns
 returns c =

@@ -9,7 +9,7 @@ use Rattle.search_left.proofs.left_impl.Goals as goal
 
 pub true_impl-requires : goal.true_impl-requires
 true_impl-requires c =
-    record { represented = c.requires.represented; last = (last_from c.requires.last c.left.ensures c.kind-g.ensures c.if-g-eq-TRUE.taken) }
+    record { represented = c.requires.represented; last = (last_from c.requires.last c.left.ensures c.kind-g.ensures c.if-g-eq-TRUE.true) }
 
 pub returns-then-g-eq-TRUE : goal.returns-then-g-eq-TRUE
 returns-then-g-eq-TRUE c =
@@ -17,7 +17,7 @@ returns-then-g-eq-TRUE c =
 
 pub and_impl-requires : goal.and_impl-requires
 and_impl-requires c =
-    record { represented = c.requires.represented; last = (last_from c.requires.last c.left.ensures c.kind-g.ensures c.if-g-eq-AND.taken); few = c.requires.few }
+    record { represented = c.requires.represented; last = (last_from c.requires.last c.left.ensures c.kind-g.ensures c.if-g-eq-AND.true); few = c.requires.few }
 
 pub returns-then-g-eq-AND : goal.returns-then-g-eq-AND
 returns-then-g-eq-AND c =
@@ -25,7 +25,7 @@ returns-then-g-eq-AND c =
 
 pub or_impl-requires : goal.or_impl-requires
 or_impl-requires c =
-    record { represented = c.requires.represented; last = (last_from c.requires.last c.left.ensures c.kind-g.ensures c.if-g-eq-OR.taken); few = c.requires.few }
+    record { represented = c.requires.represented; last = (last_from c.requires.last c.left.ensures c.kind-g.ensures c.if-g-eq-OR.true); few = c.requires.few }
 
 pub returns-then-g-eq-OR : goal.returns-then-g-eq-OR
 returns-then-g-eq-OR c =
@@ -38,7 +38,7 @@ pop-rest-requires c =
 pub returns-then-g-eq-FALSE : goal.returns-then-g-eq-FALSE
 returns-then-g-eq-FALSE c =
                     drop_impl_on (skipped (names_in c.args.names.now)) c.requires.represented
-    (last_from c.requires.last c.left.ensures c.kind-g.ensures c.if-g-eq-FALSE.taken) c.pop-rest.ensures
+    (last_from c.requires.last c.left.ensures c.kind-g.ensures c.if-g-eq-FALSE.true) c.pop-rest.ensures
 
 pub append-q1-requires : goal.append-q1-requires
 append-q1-requires c =
@@ -48,4 +48,4 @@ pub returns : goal.returns
 returns c =
                                         wait_on (skipped (names_in c.args.names.now)) c.requires.represented c.pop-rest.ensures c.append-q1.ensures.work c.append-q1.ensures.result
     (last_from c.requires.last c.left.ensures c.kind-g.ensures refl)
-    c.if-g-eq-TRUE.left c.if-g-eq-FALSE.left c.if-g-eq-AND.left c.if-g-eq-OR.left
+    c.if-g-eq-TRUE.false c.if-g-eq-FALSE.false c.if-g-eq-AND.false c.if-g-eq-OR.false

@@ -42,13 +42,13 @@ arrow-requires-2 c =
 pub composed-requires : goal.composed-requires
 composed-requires c =
                         let o = sides_room (skipped (names_in c.args.names.now)) c.requires.represented c.fresh-first.ensures c.fresh-second.ensures c.requires.last
-    c.lack-n.ensures c.if-n-ne0.left in
+    c.lack-n.ensures c.if-n-ne0.false in
     (omega arith, o.2)
 
 pub composed-requires-2 : goal.composed-requires-2
 composed-requires-2 c =
                         let o = sides_room (skipped (names_in c.args.names.now)) c.requires.represented c.fresh-first.ensures c.fresh-second.ensures c.requires.last
-    c.lack-n.ensures c.if-n-ne0.left in
+    c.lack-n.ensures c.if-n-ne0.false in
     (omega arith, o.3)
 
 pub pop-rest-requires : goal.pop-rest-requires
@@ -64,12 +64,12 @@ push-q2-requires c =
                             let st = c.args.state in
     let q = c.args.sequent in
     push_room_more c.requires.represented (c.fresh-second.result + 1) (st.formulas + 2) (st.terms + 10) (q.unordered + q.ordered + 1)
-    c.lack-n.ensures c.if-n-ne0.left refl c.requires.last.last.some c.pop-rest.ensures c.push-q1.ensures.result
+    c.lack-n.ensures c.if-n-ne0.false refl c.requires.last.last.some c.pop-rest.ensures c.push-q1.ensures.result
 
 pub spend-requires : goal.spend-requires
 spend-requires c =
                         let o = sides_room (skipped (names_in c.args.names.now)) c.requires.represented c.fresh-first.ensures c.fresh-second.ensures c.requires.last
-    c.lack-n.ensures c.if-n-ne0.left in
+    c.lack-n.ensures c.if-n-ne0.false in
     (o.0, o.1)
 
 pub returns : goal.returns

@@ -25,44 +25,44 @@ overflow_add-y c =
 pub composed-requires : goal.composed-requires
 composed-requires c =
                 let r = c.requires.represented in let o = spend_room c.requires.represented (c.args.y + 1) (c.args.state.formulas + 1) (c.args.state.terms + 5)
-    (c.args.sequent.unordered + c.args.sequent.ordered) c.lack-n.ensures c.if-n-ne0.left in
+    (c.args.sequent.unordered + c.args.sequent.ordered) c.lack-n.ensures c.if-n-ne0.false in
     let u = indices_room c.requires.represented (c.args.y + 1) (c.args.state.formulas + 1) (c.args.state.terms + 5)
-    (c.args.sequent.unordered + c.args.sequent.ordered) c.lack-n.ensures c.if-n-ne0.left in let l = c.requires.indices.0 in
+    (c.args.sequent.unordered + c.args.sequent.ordered) c.lack-n.ensures c.if-n-ne0.false in let l = c.requires.indices.0 in
     (omega arith, omega arith)
 
 pub copy_up-requires : goal.copy_up-requires
 copy_up-requires c =
                 copy_room c.requires.represented (c.args.y + 1) (c.args.state.formulas + 1) (c.args.state.terms + 5)
-    (c.args.sequent.unordered + c.args.sequent.ordered) c.lack-n.ensures c.if-n-ne0.left
+    (c.args.sequent.unordered + c.args.sequent.ordered) c.lack-n.ensures c.if-n-ne0.false
 
 pub up-requires : goal.up-requires
 up-requires c =
                 let o = up_room c.requires.represented (c.args.y + 1) (c.args.state.formulas + 1) (c.args.state.terms + 5)
-    (c.args.sequent.unordered + c.args.sequent.ordered) c.lack-n.ensures c.if-n-ne0.left in omega arith
+    (c.args.sequent.unordered + c.args.sequent.ordered) c.lack-n.ensures c.if-n-ne0.false in omega arith
 
 pub remove-q1-requires : goal.remove-q1-requires
 remove-q1-requires c =
                     let r = c.requires.represented in let n = c.requires.nested.here in let o = up_room c.requires.represented (c.args.y + 1) (c.args.state.formulas + 1)
-    (c.args.state.terms + 5) (c.args.sequent.unordered + c.args.sequent.ordered) c.lack-n.ensures c.if-n-ne0.left in
+    (c.args.state.terms + 5) (c.args.sequent.unordered + c.args.sequent.ordered) c.lack-n.ensures c.if-n-ne0.false in
     let a = area_room c.requires.represented (c.args.y + 1) (c.args.state.formulas + 1) (c.args.state.terms + 5)
-    (c.args.sequent.unordered + c.args.sequent.ordered) c.lack-n.ensures c.if-n-ne0.left in let k = c.copy_up.auto in
+    (c.args.sequent.unordered + c.args.sequent.ordered) c.lack-n.ensures c.if-n-ne0.false in let k = c.copy_up.auto in
     let h = fields c.up.ensures in (omega arith, omega arith, omega (arith, r.seats.fits), omega arith)
 
 pub overflow_add-at-2 : goal.overflow_add-at-2
 overflow_add-at-2 c =
                 let o = spend_room c.requires.represented (c.args.y + 1) (c.args.state.formulas + 1) (c.args.state.terms + 5)
-    (c.args.sequent.unordered + c.args.sequent.ordered) c.lack-n.ensures c.if-n-ne0.left in omega arith
+    (c.args.sequent.unordered + c.args.sequent.ordered) c.lack-n.ensures c.if-n-ne0.false in omega arith
 
 pub push-q2-requires : goal.push-q2-requires
 push-q2-requires c =
                         let r = c.requires.represented in let n = c.requires.nested.here in let o = up_room c.requires.represented (c.args.y + 1) (c.args.state.formulas + 1)
-    (c.args.state.terms + 5) (c.args.sequent.unordered + c.args.sequent.ordered) c.lack-n.ensures c.if-n-ne0.left in
+    (c.args.state.terms + 5) (c.args.sequent.unordered + c.args.sequent.ordered) c.lack-n.ensures c.if-n-ne0.false in
     let h = fields c.up.ensures in let g = fields c.remove-q1.ensures.result in (omega arith, omega (arith, r.seats.fits))
 
 pub spend-requires : goal.spend-requires
 spend-requires c =
                 spend_room c.requires.represented (c.args.y + 1) (c.args.state.formulas + 1) (c.args.state.terms + 5)
-    (c.args.sequent.unordered + c.args.sequent.ordered) c.lack-n.ensures c.if-n-ne0.left
+    (c.args.sequent.unordered + c.args.sequent.ordered) c.lack-n.ensures c.if-n-ne0.false
 
 pub returns : goal.returns
 unfolding six_of

@@ -39,7 +39,7 @@ push-q2-requires c =
 pub spend-requires : goal.spend-requires
 spend-requires c =
                 let o = spend_room c.requires.represented c.args.state.indices c.args.state.formulas (c.args.state.terms + 1)
-    (c.args.sequent.unordered + c.args.sequent.ordered) c.lack-n.ensures c.if-n-ne0.left in (omega arith, o.1)
+    (c.args.sequent.unordered + c.args.sequent.ordered) c.lack-n.ensures c.if-n-ne0.false in (omega arith, o.1)
 
 pub returns : goal.returns
 returns c =
