@@ -5,10 +5,6 @@ use Rattle.house_text.proofs.Laying.{laid_then}
 use borrow.Author.Rules.{rules}
 use Rattle.house_lines.proofs.lay_line.Goals as goal
 
--- LEFT slice-aggregate-lay
-slice-aggregate-lay : tie.Need-slice-aggregate-lay
-slice-aggregate-lay c = search rules
-
 pub returns : goal.returns
 unfolding joined line
 returns c =

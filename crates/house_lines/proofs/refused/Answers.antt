@@ -5,10 +5,6 @@ use Rattle.house_lines.proofs.Filling.{end_inside, end_is_size, filled}
 use borrow.Author.Rules.{rules}
 use Rattle.house_lines.proofs.refused.Goals as goal
 
--- LEFT slice-aggregate-lay-counted
-slice-aggregate-lay-counted : tie.Need-slice-aggregate-lay-counted
-slice-aggregate-lay-counted c = search rules
-
 pub clear_from-requires : goal.clear_from-requires
 unfolding refused_line bytes
 clear_from-requires c =

@@ -7,14 +7,6 @@ use Rattle.house_lines.proofs.Filling.{end_inside, end_is_size, filled}
 use borrow.Author.Rules.{rules}
 use Rattle.house_lines.proofs.unprovable.Goals as goal
 
--- LEFT slice-aggregate-lay-line
-slice-aggregate-lay-line : tie.Need-slice-aggregate-lay-line
-slice-aggregate-lay-line c = search rules
-
--- LEFT slice-aggregate-lay-counted
-slice-aggregate-lay-counted : tie.Need-slice-aggregate-lay-counted
-slice-aggregate-lay-counted c = search rules
-
 pub clear_from-requires : goal.clear_from-requires
 unfolding joined unprovable_lines bytes
 clear_from-requires c =

@@ -17,7 +17,7 @@ loop-j-init c =
 
 pub overflow_add-j : goal.overflow_add-j
 overflow_add-j c =
-    omega (arith, c.letter_count-count.type-inv)
+    omega (arith, c.letter_count-count.type_inv)
 
 pub loop-j-smaller : goal.loop-j-smaller
 loop-j-smaller c =

@@ -7,30 +7,18 @@ use Rattle.house_text.proofs.FormulaPieces.{and_opening, or_opening, impl_openin
 use borrow.Author.Rules.{rules}
 use Rattle.house_text.proofs.lay_opening.Goals as goal
 
--- LEFT slice-aggregate-lay
-slice-aggregate-lay : tie.Need-slice-aggregate-lay
-slice-aggregate-lay c = search rules
-
--- LEFT slice-aggregate-lay-2
-slice-aggregate-lay-2 : tie.Need-slice-aggregate-lay-2
-slice-aggregate-lay-2 c = search rules
-
--- LEFT slice-aggregate-lay-3
-slice-aggregate-lay-3 : tie.Need-slice-aggregate-lay-3
-slice-aggregate-lay-3 c = search rules
-
 pub returns-in-3 : goal.returns-in-3
 unfolding bytes
 returns-in-3 c =
-                laid_as (ap some (and_opening c.args.kind c.in-3.keys1)) c.lay.ensures
+                laid_as (ap some (and_opening c.args.kind c.in-3.is)) c.lay.ensures
 
 pub returns-in-4 : goal.returns-in-4
 unfolding bytes
 returns-in-4 c =
-                laid_as (ap some (or_opening c.args.kind c.in-3.keys2)) c.lay-in-4.ensures
+                laid_as (ap some (or_opening c.args.kind c.in-4.is)) c.lay-in-4.ensures
 
 pub returns-in_default : goal.returns-in_default
 unfolding bytes
 returns-in_default c =
-                laid_as (ap some (impl_opening c.args.kind c.in-3.rest.0.1 c.in-3.rest.1))
+                laid_as (ap some (impl_opening c.args.kind c.in_default.in_default-own.rest.0.1 c.in_default.in_default-own.rest.1))
     c.lay-in_default.ensures

@@ -7,21 +7,14 @@ use Rattle.house_text.specs.Drafted.{draft}
 use Rattle.house_text.proofs.WholeText.{written_front}
 use Rattle.house_text.proofs.write.Goals as goal
 
--- what is lent
-abbrev lent : tie.Start → Draft
-lent c =
-    let args = c.args in
-    draft args.words.now args.count args.assumptions args.names.now args.terms.now args.nodes args.root
-    args.buf.now
-
 pub slice_bounds-result-end : goal.slice_bounds-result-end
 slice_bounds-result-end c =
-            part_inside (written_front (lent (goal.at.slice_bounds-result-end c).Start)) c.write_text-n.ensures.written
+            part_inside (written_front (draft c.args.words.now c.args.count c.args.assumptions c.args.names.now c.args.terms.now c.args.nodes c.args.root c.args.buf.now)) c.write_text-n.ensures.written
 
 pub returns : goal.returns
 returns c =
             let hands = c.write_text-n.ensures in record { written = record {
         front_is = refl;
-        part_is = front_is_part (written_front (lent (goal.at.returns c).Start)) hands.written;
+        part_is = front_is_part (written_front (draft c.args.words.now c.args.count c.args.assumptions c.args.names.now c.args.terms.now c.args.nodes c.args.root c.args.buf.now)) hands.written;
         number_is = hands.written.number_is;
       }; place = hands.place }

@@ -16,47 +16,40 @@ use borrow.Author.Rules.{rules}
 use Rattle.house_text.proofs.write_text.Goals as goal
 use Rattle.house_text.proofs.write_text.Goals.{Then-refused-eq0}
 
--- what is lent
-abbrev lent : tie.Start → Draft
-lent c =
-    let args = c.args in
-    draft args.words.now args.count args.assumptions args.names.now args.terms.now args.nodes args.root
-    args.buf.now
-
 -- number 0 says that nothing is refused
 nothing : (c : Then-refused-eq0) → refused_by c.test-tested.result ≡ none
 nothing c = none_refused (refused_by c.test-tested.result)
     (sym c.number_of-refused.ensures ∙ c.if-refused-eq0.true)
 
-passed : (c : Then-refused-eq0) → writer_refusal (lent «at Start») ≡ none
+passed : (c : Then-refused-eq0) → writer_refusal (draft c.args.words.now c.args.count c.args.assumptions c.args.names.now c.args.terms.now c.args.nodes c.args.root c.args.buf.now) ≡ none
 unfolding writer_refusal
 passed c = sym c.test-tested.ensures ∙ nothing c
 
 pub overflow_mul-numbers : goal.overflow_mul-numbers
 overflow_mul-numbers c =
-        let begin = (goal.at.overflow_mul-numbers c).Start in omega (arith, numbers_there (lent begin) (passed c), begin.well-formed)
+        omega (arith, numbers_there (draft c.args.words.now c.args.count c.args.assumptions c.args.names.now c.args.terms.now c.args.nodes c.args.root c.args.buf.now) (passed c), c.type_inv)
 
 pub slice_bounds-write_term-end : goal.slice_bounds-write_term-end
 slice_bounds-write_term-end c =
-            sym (length-take-le c.args.count c.args.words.now (words_there (lent (goal.at.slice_bounds-write_term-end c).Start) (passed (goal.at.slice_bounds-write_term-end c).After-place_of)))
+            sym (length-take-le c.args.count c.args.words.now (words_there (draft c.args.words.now c.args.count c.args.assumptions c.args.names.now c.args.terms.now c.args.nodes c.args.root c.args.buf.now) (passed (goal.at.slice_bounds-write_term-end c).Then-refused-eq0)))
 
 pub slice_bounds-write_term-end-then-refused-eq0 : goal.slice_bounds-write_term-end-then-refused-eq0
 slice_bounds-write_term-end-then-refused-eq0 c =
             let args = c.args in
-    sym (length-take-le (args.nodes * node_width) args.terms.now (numbers_there (lent (goal.at.slice_bounds-write_term-end-then-refused-eq0 c).Start) (passed (goal.at.slice_bounds-write_term-end-then-refused-eq0 c).After-number_of-refused)))
+    sym (length-take-le (args.nodes * node_width) args.terms.now (numbers_there (draft c.args.words.now c.args.count c.args.assumptions c.args.names.now c.args.terms.now c.args.nodes c.args.root c.args.buf.now) (passed (goal.at.slice_bounds-write_term-end-then-refused-eq0 c).Then-refused-eq0)))
 
 pub write_term-requires : goal.write_term-requires
 write_term-requires c =
-    record { given = parts_given (lent (goal.at.write_term-requires c).Start) (passed (goal.at.write_term-requires c).After-number_of-refused); root = root_there (lent (goal.at.write_term-requires c).Start) (passed (goal.at.write_term-requires c).After-number_of-refused) }
+    record { given = parts_given (draft c.args.words.now c.args.count c.args.assumptions c.args.names.now c.args.terms.now c.args.nodes c.args.root c.args.buf.now) (passed (goal.at.write_term-requires c).Then-refused-eq0); root = root_there (draft c.args.words.now c.args.count c.args.assumptions c.args.names.now c.args.terms.now c.args.nodes c.args.root c.args.buf.now) (passed (goal.at.write_term-requires c).Then-refused-eq0) }
 
 pub returns-then-refused-eq0 : goal.returns-then-refused-eq0
 unfolding place_in
 returns-then-refused-eq0 c =
-    record { written = passed_hands (lent (goal.at.returns-then-refused-eq0 c).Start) (passed (goal.at.returns-then-refused-eq0 c).After-number_of-refused) c.write_term.ensures; place = c.place_of.ensures ∙ ap place_in (nothing (goal.at.returns-then-refused-eq0 c).After-number_of-refused) ∙ passed_place (lent (goal.at.returns-then-refused-eq0 c).Start) (passed (goal.at.returns-then-refused-eq0 c).After-number_of-refused) }
+    record { written = passed_hands (draft c.args.words.now c.args.count c.args.assumptions c.args.names.now c.args.terms.now c.args.nodes c.args.root c.args.buf.now) (passed (goal.at.returns-then-refused-eq0 c).Then-refused-eq0) c.write_term.ensures; place = c.place_of.ensures ∙ ap place_in (nothing (goal.at.returns-then-refused-eq0 c).Then-refused-eq0) ∙ passed_place (draft c.args.words.now c.args.count c.args.assumptions c.args.names.now c.args.terms.now c.args.nodes c.args.root c.args.buf.now) (passed (goal.at.returns-then-refused-eq0 c).Then-refused-eq0) }
 
 pub returns : goal.returns
 unfolding writer_refusal
 returns c =
                     let number = c.number_of-refused.ensures in
-    let hands = refused_hands (lent (goal.at.returns c).Start) (refused_by c.test-tested.result) c.test-tested.ensures
-    (λ e. c.if-refused-eq0.false (number ∙ e)) in record { written = subst (λ n. Hands (written (lent (goal.at.returns c).Start)) 0 n c.args.buf.now) (sym number) hands.0; place = c.place_of.ensures ∙ hands.1 }
+    let hands = refused_hands (draft c.args.words.now c.args.count c.args.assumptions c.args.names.now c.args.terms.now c.args.nodes c.args.root c.args.buf.now) (refused_by c.test-tested.result) c.test-tested.ensures
+    (λ e. c.if-refused-eq0.false (number ∙ e)) in record { written = subst (λ n. Hands (written (draft c.args.words.now c.args.count c.args.assumptions c.args.names.now c.args.terms.now c.args.nodes c.args.root c.args.buf.now)) 0 n c.args.buf.now) (sym number) hands.0; place = c.place_of.ensures ∙ hands.1 }
