@@ -2,7 +2,6 @@
 use borrow.Author.Rules.{rules}
 use mathlib.Core.Path.{refl, ap}
 use native.Mathlib.Omega.{arith}
-use Rattle.theory.specs.Call.{Claim}
 use Rattle.theory.proofs.Passing.{passes}
 use Rattle.call.proofs.First.{few_names}
 use Rattle.call.proofs.Ending.{ends_short, right_asks, right_ends}
@@ -10,29 +9,23 @@ use lib.ListN.{length}
 use Rattle.call.specs.Lent.{claim_of}
 use Rattle.prove.proofs.start.Goals as goal
 
--- the claim that the call is lent
-abbrev lent : tie.Start → Claim
-lent c =
-    let a = c.args in
-    claim_of a.words.now a.count a.assumed.now a.names.now a.goal a.terms.now (length a.work.now) a.steps
-
 pub returns-then-limits-assumed : goal.returns-then-limits-assumed
 returns-then-limits-assumed c =
-            ends_short (lent (goal.at.returns-then-limits-assumed c).Start) c.args.work.now c.requires refl
+            ends_short (claim_of c.args.words.now c.args.count c.args.assumed.now c.args.names.now c.args.goal c.args.terms.now (length c.args.work.now) c.args.steps) c.args.work.now c.requires refl
     (omega (arith, c.if-limits-assumed.true, ap (λ v. v.terms) c.limits-limits.ensures))
 
 pub assume-sequent-requires : goal.assume-sequent-requires
 assume-sequent-requires c =
-        (passes (lent (goal.at.assume-sequent-requires c).Start) c.requires).few
+        (passes (claim_of c.args.words.now c.args.count c.args.assumed.now c.args.names.now c.args.goal c.args.terms.now (length c.args.work.now) c.args.steps) c.requires).few
 
 pub right-requires : goal.right-requires
 right-requires c =
             let e = c.assume-sequent.ensures in
-    let x = lent (goal.at.right-requires c).Start in record { represented = right_asks x c.args.work.now c.requires refl c.limits-limits.ensures e.terms e.work e.result c.if-limits-assumed.false; few = few_names x c.args.work.now c.requires refl }
+    let x = claim_of c.args.words.now c.args.count c.args.assumed.now c.args.names.now c.args.goal c.args.terms.now (length c.args.work.now) c.args.steps in record { represented = right_asks x c.args.work.now c.requires refl c.limits-limits.ensures e.terms e.work e.result c.if-limits-assumed.false; few = few_names x c.args.work.now c.requires refl }
 
 pub returns : goal.returns
 returns c =
-            let x = lent (goal.at.returns c).Start in
+            let x = claim_of c.args.words.now c.args.count c.args.assumed.now c.args.names.now c.args.goal c.args.terms.now (length c.args.work.now) c.args.steps in
     let e = c.assume-sequent.ensures in
     right_ends x c.args.work.now c.requires refl
     c.limits-limits.ensures e.terms e.work e.result c.if-limits-assumed.false
