@@ -28,7 +28,7 @@ returns-then-open_goal c =
                     let a = c.args in
     let long = ap length c.open_goal.ensures.work ∙ length-replicate (length a.work.now) zeroed in
     let e = c.search_negation.ensures in record { result = goal_open a.words.now a.count a.goal a.terms.now a.work.now a.steps c.requires.passed
-          (sym c.if-open_goal.true ∙ c.open_goal.ensures.result) long e.result; kept = e.kept; work = e.work ∙ ap (λ ((goal.at.returns-then-open_goal c).After-search_negation : ℕ). replicate (goal.at.returns-then-open_goal c).After-search_negation zeroed) long }
+          (sym c.if-open_goal.true ∙ c.open_goal.ensures.result) long e.result; kept = e.kept; work = e.work ∙ ap (λ (n : ℕ). replicate n zeroed) long }
 
 pub returns : goal.returns
 returns c =
