@@ -9,7 +9,7 @@ use Rattle.house_file.proofs.held_output.Goals as goal
 
 pub goal_lines-requires : goal.goal_lines-requires
 goal_lines-requires c =
-    let pre = c.requires in record { tested = pre.0; seen = pre.1.0; words = refl; indices = length-replicate {A = ℕ} 64 0; names = length-replicate {A = ℕ} 32768 0; terms = refl; room = pre.1.1 }
+    record { tested = c.requires.tested; seen = c.requires.seen; words = refl; indices = length-replicate {A = ℕ} 64 0; names = length-replicate {A = ℕ} 32768 0; terms = refl; room = c.requires.room }
 
 pub returns : goal.returns
 returns c =

@@ -23,9 +23,8 @@ refused-requires c =
 pub held_output-requires : goal.held_output-requires
 held_output-requires c =
         let bs = c.args.file.now in
-    let held = c.formulas-1.given in
-    let tested = c.test_file in record { tested = is_decoded held.0.0 held.0.1.0 held.0.1.1.0 bs
-          (ap (λ (s : Sections). held_by s bs) (sym held.1) ∙ tested.ensures.held); seen = subst (λ (s : Sections). Fits s bs) held.1 tested.ensures.fits; room = omega arith }
+    let tested = c.test_file in record { tested = is_decoded c.in-Held.formulas c.in-Held.assumptions c.in-Held.goal bs
+          (ap (λ (s : Sections). held_by s bs) (sym c.in-Held.is) ∙ tested.ensures.held); seen = subst (λ (s : Sections). Fits s bs) c.in-Held.is tested.ensures.fits; room = omega arith }
 
 pub returns-in-BadFile : goal.returns-in-BadFile
 returns-in-BadFile c =
