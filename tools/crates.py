@@ -40,21 +40,22 @@ class Wrong(Exception):
 
 
 def listed(text):
-    """What each crate of crates.txt stands on, in the order of the list.
+    """What each crate of crates.txt stands on, in the order of the list. Behind a name its kind and its numbers may stand.
 
-    >>> listed('# a list\\na:\\nb: a io  # why\\n')
-    {'a': [], 'b': ['a', 'io']}
+    >>> listed('# a list\\na:\\nb: a io  # why\\nc staticlib: a\\n')
+    {'a': [], 'b': ['a', 'io'], 'c': ['a']}
     >>> listed('test_a:\\nb: test_a\\n')
     Traceback (most recent call last):
     crates.Wrong: b, a product, stands on test_a, a test
     """
     deps = {}
     for line in text.splitlines():
-        name, colon, rest = line.partition('#')[0].partition(':')
+        head, colon, rest = line.partition('#')[0].partition(':')
         if colon:
-            if name.strip() in deps:
-                raise Wrong('crates.txt lists %s twice' % name.strip())
-            deps[name.strip()] = rest.split()
+            name = head.split()[0]
+            if name in deps:
+                raise Wrong('crates.txt lists %s twice' % name)
+            deps[name] = rest.split()
     for name, below in deps.items():
         for dep in below:
             if dep not in deps and dep not in LIBRARIES:
@@ -132,12 +133,12 @@ def drawing(names, floor, arrows):
 
 
 def held(source):
-    """The first sentence of the comment that heads a source.
+    """The first sentence of the comment that heads a source, before or behind attributes of the whole file.
 
-    >>> held('// What `a.rs` does: x, y, .., with\\n// no end. And more.\\nmod b;\\n')
+    >>> held('#![tactic(auto)]\\n// What `a.rs` does: x, y, .., with\\n// no end. And more.\\nmod b;\\n')
     'What `a.rs` does: x, y, .., with no end.'
     """
-    head = re.match(r'(?://.*\n)*', source).group()
+    head = re.match(r'(?:#!\[.*\]\n)*((?://.*\n)*)', source).group(1)
     text = ' '.join(line[2:].strip() for line in head.splitlines())
     first = re.match(r'.*?[^.]\.(?=\s|$)', text)
     return first.group() if first else None

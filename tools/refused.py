@@ -1,58 +1,84 @@
 #!/usr/bin/env python3
-"""Where each must-fail edit is first refused, read from the logs that `rt ci` or `rt must-fail` leaves in target/must-fail.
+"""Where each must-fail edit is first refused, read from what the gate printed: target/gate.log, which ./test leaves, or the LOGs that are
+named, such as what `rt ci NAME` or `rt must-fail NAME` printed; of two lines on an edit the later counts.
 
-    tools/refused.py          a line an edit: the crate, the edit, the place
-    tools/refused.py --write  writes the places into the last table of docs/CONTRACTS.md
-    tools/refused.py --check  whether that table says the same of every edit; exit status 1 and the differences where it does not
+    tools/refused.py [LOG...]          a line an edit: the crate, the edit, the place
+    tools/refused.py --write [LOG...]  writes the places into the last table of docs/CONTRACTS.md; rows of edits of which no LOG speaks stay
+    tools/refused.py --check [LOG...]  whether that table says the same of every edit; exit status 1 and the differences where it does not
 
-A place is a function or a module of proofs, and in it the need or the theorem: `copy_up: returns`."""
+A place is a function or a module of proofs, and in it the goal or the theorem: `copy_up: returns`. The gate cuts its lines off, and so a
+long name of a goal: it ends in `..` then.
+
+python3 -m doctest tools/refused.py runs the examples below."""
 import pathlib, re, sys
 
 ROOT = pathlib.Path(__file__).resolve().parent.parent
-LOGS = ROOT / 'target' / 'must-fail'
+LOG = ROOT / 'target' / 'gate.log'
 CONTRACTS = ROOT / 'docs' / 'CONTRACTS.md'
 # A row of the document's table: the edit, the wrong program, the place.
 ROW = re.compile(r'^(\| `(\w+/\w+)` \| [^|\n]+ \|)(?: `([^`]+)`)? \|$', flags=re.M)
-# A log's first error: the file that it stands in, and what in that file is refused.
-ERROR = re.compile(r'^\S*?/((?:src|specs|proofs)/\S+?):\d+:\d+: error(?:\[[\w-]+\])?: (?:`([^`]+)`)?')
-# Where the toolchain makes a function's proof by itself: the source, the line of the function, and what it could not show.
-UNPROVED = re.compile(r'^note: (\S+?):(\d+):\d+: it is not proved .*\(`([^`]+)`\)$')
+# What the gate says of an edit: the crate, the edit, and the first thing that the check said; in brackets what is to be said of it.
+SAID = re.compile(r'^rt: must-fail (\w+)/(\w+)\.edit: (?:refused, as it must be(?: \([^)]*\))?: (.*)|.*)$')
+# An error: the file that it stands in, the line, and what in that file is refused.
+ERROR = re.compile(r'^(?:\./)?((?:src|specs|proofs)/\S+?):(\d+):\d+: error(?:\[[\w-]+\])?: (?:`([^`]+)`)?')
+# Where the toolchain makes a function's proof by itself: the source, the line, and the goal that it could not show.
+UNPROVED = re.compile(r'^note: (?:\./)?(\S+?):(\d+):\d+: it is not proved .*?\(`([^`]+)(`?)')
 
 
 def room(path, what):
-    """The function, the module or the source that a file of a crate is, and what is refused in it."""
+    """The function, the module or the source that a file of a crate is, and what is refused in it.
+
+    >>> room('proofs/copy_up/Answers.antt', 'returns')
+    'copy_up: returns'
+    >>> room('proofs/book/lend/Invariants.antt', None)
+    'lend'
+    >>> room('proofs/+judgement/Answers.antt', 'right-returns')
+    'judgement: right-returns'
+    >>> room('proofs/Called.antt', 'told')
+    'Called: told'
+    >>> room('specs/Told.antt', None)
+    'specs/Told'
+    """
     parts = pathlib.PurePath(path).with_suffix('').parts
     if parts[0] != 'proofs':
         return '/'.join(parts)
-    inner = [part for part in parts[1:] if part not in ('Generated', 'Proof', 'Tie', 'Lts', 'Reads', 'Kinds')]
-    # the cycle's folder names all of its functions: the file in it says which
-    named = [part for part in inner if not part.startswith('+')] or ['cycle']
+    # a function's folder holds its answers, a cycle's the answers of all its functions
+    named = [part.lstrip('+') for part in parts[1:] if part not in ('Answers', 'Invariants', 'Proof')]
     return named[-1] + (': ' + what if what else '')
 
 
-def function_at(source, line):
-    """The name of the function that starts at a line of a source."""
-    return re.search(r'fn (\w+)', ''.join(pathlib.Path(source).read_text().splitlines(True)[line - 1:])).group(1)
+def function_at(lines, line):
+    """The name of the function in which a line of a source stands; None where it stands before any.
+
+    >>> function_at(['// f', 'fn f() {', '    0', '}', 'pub fn g() {', '}'], 3)
+    'f'
+    >>> function_at(['// f', 'pub extern "C" fn f() {', '}'], 2)
+    'f'
+    """
+    heads = [found.group(1) for text in lines[:line] if (found := re.match(r'\s*(?:pub(?:\([^)]*\))? )?(?:extern "C" )?fn (\w+)', text))]
+    return heads[-1] if heads else None
 
 
-def first_refused(log):
-    """The place of a log's first error."""
-    for line in log.read_text().splitlines():
-        error, unproved = ERROR.match(line), UNPROVED.match(line)
-        if error:
-            return room(*error.groups())
-        if unproved:
-            return '%s: %s' % (function_at(unproved.group(1), int(unproved.group(2))), unproved.group(3))
-    return None
+def place(crate, said):
+    """The place that the first thing said of an edit names; None where it names none. An edit changes no number of a line."""
+    error, unproved = ERROR.match(said), UNPROVED.match(said)
+    path, line, what = (error or unproved).groups()[:3] if error or unproved else (None, 0, None)
+    if unproved:
+        what += '' if unproved.group(4) else '..'
+    if path and path.startswith('src/'):
+        function = function_at((ROOT / 'crates' / crate / path).read_text().splitlines(), int(line))
+        return (function or room(path, None)) + (': ' + what if what else '')
+    return path and room(path, what)
 
 
-def edits():
-    """Each edit of the repository, as CRATE/NAME, with the place where it is first refused; None where its log is missing or tells none."""
-    found = {}
-    for edit in sorted((ROOT / 'crates').glob('*/must-fail/*.edit')):
-        crate = edit.parts[-3]
-        log = LOGS / crate / edit.stem / '.log'
-        found['%s/%s' % (crate, edit.stem)] = first_refused(log) if log.exists() else None
+def edits(logs):
+    """Each edit of the repository, as CRATE/NAME, with the place where it is first refused; None where no log tells one."""
+    found = {'%s/%s' % (it.parts[-3], it.stem): None for it in sorted((ROOT / 'crates').glob('*/must-fail/*.edit'))}
+    for log in logs:
+        for line in log.read_text().splitlines():
+            match = SAID.match(line)
+            if match and '/'.join(match.groups()[:2]) in found:
+                found['/'.join(match.groups()[:2])] = place(match.group(1), match.group(3) or '')
     return found
 
 
@@ -60,7 +86,7 @@ def write(found):
     """Writes each edit's place into its row."""
     def row(match):
         place = found.get(match.group(2))
-        return match.group(1) + (' `%s` |' % place if place else ' |')
+        return match.group(1) + ' `%s` |' % place if place else match.group()
     CONTRACTS.write_text(ROW.sub(row, CONTRACTS.read_text()))
 
 
@@ -73,10 +99,18 @@ def check(found):
 
 
 def main(words):
-    found = edits()
-    if words == ['--check']:
+    option = words[:1] if words[:1] in (['--check'], ['--write']) else []
+    named = [pathlib.Path(word) for word in words[len(option):]]
+    if any(word.startswith('-') for word in words[len(option):]):
+        sys.exit(__doc__)
+    logs = named or [LOG]
+    lacking = [log for log in logs if not log.exists()]
+    if lacking:
+        sys.exit('refused.py: there is no %s; ./test leaves target/gate.log' % lacking[0])
+    found = edits(logs)
+    if option == ['--check']:
         return check(found)
-    if words == ['--write']:
+    if option == ['--write']:
         write(found)
         return 0
     print('\n'.join('%s  %s' % pair for pair in found.items()))
