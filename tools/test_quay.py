@@ -20,7 +20,7 @@ def held(path):
 
 ROOT = os.path.dirname(os.path.dirname(os.path.abspath(__file__)))
 QUAY = os.path.join(ROOT, "quay")
-PROGRAM = os.path.join(ROOT, "target", "bin", "quaysaffron")
+PROGRAM = os.path.join(ROOT, "crates", "quaysaffron", "out", "quaysaffron")
 EXAMPLES = os.path.join(ROOT, "examples")
 WHOLE = os.path.join(EXAMPLES, "whole.house")
 TOOLS = "cat cmp cp dd dirname find mkdir mv readlink rm sed sh tr uname wc".split()
@@ -184,7 +184,9 @@ class Apart(InFolder):
         super().setUp()
         self.quay = os.path.join(self.folder, "repo", "quay")
         self.put("repo/crates.txt", b"")
-        self.put("repo/crates/a/src/main.rt", b"")
+        self.put("repo/crates/a/src/lib.rt", b"")
+        self.put("repo/crates/a/out/made", b"")
+        self.put("repo/crates/quaysaffron/src/main.rt", b"")
         self.file = self.put("file", b"")
         shutil.copy(QUAY, self.quay)
         for tool in TOOLS:
@@ -192,25 +194,24 @@ class Apart(InFolder):
             os.symlink(shutil.which(tool), os.path.join(self.folder, "tools", tool))
 
     def program(self, text):
-        """The program, newer than its sources, with the mark that rt leaves."""
-        self.put("repo/target/bin/quaysaffron", b"#!/bin/sh\n" + text, 0o755)
-        self.put("repo/target/stamp/quaysaffron", b"")
+        """The program, newer than its sources, where rt leaves it."""
+        self.put("repo/crates/quaysaffron/out/quaysaffron", b"#!/bin/sh\n" + text, 0o755)
         self.age("crates", -100)
 
     def age(self, name, seconds):
-        """Sets the time of a file or folder, and of all below, by the program's."""
-        time = os.stat(os.path.join(self.folder, "repo/target/stamp/quaysaffron")).st_mtime + seconds
-        for below, _, files in os.walk(os.path.join(self.folder, "repo", name)):
+        """Sets the time of a folder and of all below but what rt makes, with that of the list of crates, by the program's."""
+        time = os.stat(os.path.join(self.folder, "repo/crates/quaysaffron/out/quaysaffron")).st_mtime + seconds
+        for below, folders, files in os.walk(os.path.join(self.folder, "repo", name)):
+            folders[:] = [folder for folder in folders if folder != "out"]
             for path in [below, *(os.path.join(below, file) for file in files)]:
                 os.utime(path, (time, time))
-        os.utime(os.path.join(self.folder, "repo", "crates.txt"), (time, time))
+        if name == "crates":
+            os.utime(os.path.join(self.folder, "repo", "crates.txt"), (time, time))
 
     def kit(self, text):
         """A kit whose rt does what the text says."""
         self.put("kit/bin/rt", b"#!/bin/sh\n" + text, 0o755)
         self.put("kit/KIT-ID", b"kit-0 logic 0\n")
-        loader = "kit/on/%s/toolchain/lib/ld-linux-x86-64.so.2" % os.uname().machine
-        self.put(loader, b'#!/bin/sh\nshift 2\nexec "$@"\n', 0o755)
 
     def run_here(self, *words, **how):
         path = os.pathsep.join(os.path.join(self.folder, name) for name in ["tools", "kit/bin"])
@@ -225,48 +226,48 @@ class Apart(InFolder):
         self.assertEqual(sorted(refusal_names()), list(range(1, 15)))
 
     def test_what_the_program_says_is_ours(self):
-        self.program(b'echo "$1: Input/output error" >&2\n')
-        self.assertEqual(self.run_here(self.file), (1, "", "quay: %s: Input/output error\n" % self.file))
+        for end in [b"", b"exit 1\n"]:
+            self.program(b'echo "$1: Input/output error" >&2\n' + end)
+            self.assertEqual(self.run_here(self.file), (1, "", "quay: %s: Input/output error\n" % self.file))
         self.program(b"echo no loader >&2\nexit 127\n")
         self.assertEqual(self.run_here(self.file), (2, "", "quay: no loader\nquay: the program ended with status 127\n"))
 
     def test_without_the_kit(self):
         self.program(b"echo unprovable\n")
         self.assertEqual(self.run_here(self.file), (0, "unprovable\n", ""))
-        self.age("crates/a", 100)
+        self.age("crates/a/out", 100)
+        self.assertEqual(self.run_here(self.file), (0, "unprovable\n", ""))
+        self.age("crates/a/src", 100)
         self.assertEqual(self.run_here(self.file), (2, "", NOT_READY))
         self.age("crates", -100)
-        os.remove(os.path.join(self.folder, "repo/target/stamp/quaysaffron"))
-        self.assertEqual(self.run_here(self.file), (2, "", NOT_READY))
-        shutil.rmtree(os.path.join(self.folder, "repo/target"))
+        self.assertEqual(self.run_here(self.file), (0, "unprovable\n", ""))
+        shutil.rmtree(os.path.join(self.folder, "repo/crates/quaysaffron/out"))
         self.assertEqual(self.run_here(self.file), (2, "", NOT_READY))
 
     def test_the_kit_makes_what_is_missing_once(self):
-        self.kit(b'echo more; echo "rt: $* proved"; mkdir -p target/bin; printf "#!/bin/sh\\necho unprovable\\n" >target/bin/quaysaffron\n'
-                 b"chmod 755 target/bin/quaysaffron\n")
+        self.kit(b'echo refused 14; (echo more; echo "rt: $* in ${PWD##*/crates/}"; echo "rt: running out/quaysaffron; ..") >&2; mkdir -p out\n'
+                 b'printf "#!/bin/sh\\necho unprovable\\n" >out/quaysaffron; chmod 755 out/quaysaffron\n')
         os.symlink(shutil.which("chmod"), os.path.join(self.folder, "tools", "chmod"))
         begun = "quay: proving and linking the program; the first time takes minutes\n"
-        self.assertEqual(self.run_here(self.file), (0, "unprovable\n", begun + "quay: check quaysaffron proved\n"))
+        self.assertEqual(self.run_here(self.file), (0, "unprovable\n", begun + "quay: run in quaysaffron\n"))
         self.assertEqual(self.run_here(self.file), (0, "unprovable\n", ""))
         self.assertEqual(self.run_here("--version"), (0, "quaysaffron %s, proved with kit-0 logic 0\n" % VERSION, ""))
         self.put("kit/KIT-ID", b"kit-1 logic 1\n")
-        self.assertEqual(self.run_here(self.file), (0, "unprovable\n", begun + "quay: check quaysaffron proved\n"))
+        self.assertEqual(self.run_here(self.file), (0, "unprovable\n", begun + "quay: run in quaysaffron\n"))
         self.assertEqual(self.run_here("--version"), (0, "quaysaffron %s, proved with kit-1 logic 1\n" % VERSION, ""))
 
     def test_a_check_that_fails(self):
         self.program(b"echo unprovable\n")
-        self.kit(b"echo rt: a NOT PROVED\nexit 1\n")
+        self.kit(b"echo rt: a NOT PROVED >&2\nexit 1\n")
         begun = "quay: proving and linking the program; the first time takes minutes\nquay: a NOT PROVED\n"
-        told = begun + "quay: the program is not proved; 'rt check quaysaffron' says why\n"
+        told = begun + "quay: the program is not proved; 'rt run' in crates/quaysaffron says why\n"
         self.assertEqual(self.run_here(self.file), (2, "", told))
 
-    def test_the_emulator_of_the_kit(self):
+    def test_another_machine(self):
         self.program(b"echo unprovable\n")
-        self.put("repo/target/quay", b"kit-0 logic 0\n")
-        self.kit(b"exit 1\n")
-        emulator = "kit/on/%s/toolchain/bin/qemu-x86_64" % os.uname().machine
-        self.put(emulator, b'#!/bin/sh\necho emulated\nexec "$@"\n', 0o755)
-        self.assertEqual(self.run_here(self.file), (0, "emulated\nunprovable\n", ""))
+        os.remove(os.path.join(self.folder, "tools", "uname"))
+        self.put("tools/uname", b"#!/bin/sh\necho aarch64\n", 0o755)
+        self.assertEqual(self.run_here(self.file), (2, "", "quay: the program and the Rattle kit, which makes it, are for x86-64 Linux\n"))
 
     def test_arguments_and_file_are_looked_at_first(self):
         self.kit(b"echo rt: called\nexit 1\n")
