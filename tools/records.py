@@ -1,5 +1,7 @@
 #!/usr/bin/env python3
-"""Makes the borrow checker's part of the proof of every function that carries the work area, `[Record]`.
+"""For an older kit, rattle-kit-5b, and of no use with today's, whose borrow checker derives this part itself.
+
+Makes the borrow checker's part of the proof of every function that carries the work area, `[Record]`.
 
     tools/records.py [CRATE...]          writes crates/*/proofs/Generated and crates/*/proofs/*/Proof/Tie.antt (of the crates named, or
                                          of all), and restates their must-fail edits

@@ -25,38 +25,40 @@ ERROR = re.compile(r'^(?:\./)?((?:src|specs|proofs)/\S+?):(\d+):\d+: error(?:\[[
 UNPROVED = re.compile(r'^note: (?:\./)?(\S+?):(\d+):\d+: it is not proved .*?\(`([^`]+)(`?)')
 
 
-def room(path, what):
-    """The function, the module or the source that a file of a crate is, and what is refused in it.
+def room(path, what, functions):
+    """The function, the module or the source that a file of a crate with these functions is, and what is refused in it.
 
-    >>> room('proofs/copy_up/Answers.antt', 'returns')
+    >>> room('proofs/copy_up/Answers.antt', 'returns', ['copy_up'])
     'copy_up: returns'
-    >>> room('proofs/book/lend/Invariants.antt', None)
+    >>> room('proofs/book/lend/Invariants.antt', None, ['lend'])
     'lend'
-    >>> room('proofs/+judgement/Answers.antt', 'right-returns')
-    'judgement: right-returns'
-    >>> room('proofs/Called.antt', 'told')
+    >>> room('proofs/+lay_decimal/Answers.antt', 'returns-then-n-lt10', ['lay_decimal'])
+    'lay_decimal: returns-then-n-lt10'
+    >>> room('proofs/+judgement/Answers.antt', 'right-returns-in-Found', ['right', 'left'])
+    'right: returns-in-Found'
+    >>> room('proofs/Called.antt', 'told', [])
     'Called: told'
-    >>> room('specs/Told.antt', None)
+    >>> room('specs/Told.antt', None, [])
     'specs/Told'
     """
     parts = pathlib.PurePath(path).with_suffix('').parts
     if parts[0] != 'proofs':
         return '/'.join(parts)
-    # a function's folder holds its answers, a cycle's the answers of all its functions
-    named = [part.lstrip('+') for part in parts[1:] if part not in ('Answers', 'Invariants', 'Proof')]
-    return named[-1] + (': ' + what if what else '')
+    named = [part for part in parts[1:] if part not in ('Answers', 'Invariants', 'Proof')]
+    name = named[-1].lstrip('+')
+    # a cycle has a name of its own, and its functions' names stand in front of their goals
+    if name != named[-1] and name not in functions and what and '-' in what:
+        return ': '.join(what.split('-', 1))
+    return name + (': ' + what if what else '')
 
 
-def function_at(lines, line):
-    """The name of the function in which a line of a source stands; None where it stands before any.
+def functions_of(lines):
+    """The names of the functions that begin in these lines of a source, in their order.
 
-    >>> function_at(['// f', 'fn f() {', '    0', '}', 'pub fn g() {', '}'], 3)
-    'f'
-    >>> function_at(['// f', 'pub extern "C" fn f() {', '}'], 2)
-    'f'
+    >>> functions_of(['// f', 'pub extern "C" fn f() {', '}', 'pub(crate) fn g() {', '}', '    fn h();'])
+    ['f', 'g', 'h']
     """
-    heads = [found.group(1) for text in lines[:line] if (found := re.match(r'\s*(?:pub(?:\([^)]*\))? )?(?:extern "C" )?fn (\w+)', text))]
-    return heads[-1] if heads else None
+    return [found.group(1) for text in lines if (found := re.match(r'\s*(?:pub(?:\([^)]*\))? )?(?:extern "C" )?fn (\w+)', text))]
 
 
 def place(crate, said):
@@ -65,10 +67,13 @@ def place(crate, said):
     path, line, what = (error or unproved).groups()[:3] if error or unproved else (None, 0, None)
     if unproved:
         what += '' if unproved.group(4) else '..'
-    if path and path.startswith('src/'):
-        function = function_at((ROOT / 'crates' / crate / path).read_text().splitlines(), int(line))
-        return (function or room(path, None)) + (': ' + what if what else '')
-    return path and room(path, what)
+    folder = ROOT / 'crates' / crate
+    sources = {it.relative_to(folder).as_posix(): it.read_text().splitlines() for it in folder.glob('src/**/*.rt')}
+    if path in sources:
+        # the function in which the line stands, whose name a cycle's goal begins with
+        before = functions_of(sources[path][:int(line)])
+        return ': '.join([before[-1]] + [what.removeprefix(before[-1] + '-')] * bool(what)) if before else room(path, None, [])
+    return path and room(path, what, [name for lines in sources.values() for name in functions_of(lines)])
 
 
 def edits(logs):

@@ -1,5 +1,5 @@
 #!/usr/bin/env python3
-"""The tests of records.py: python3 tools/test_records.py (half a minute; the last one needs the kit)"""
+"""The tests of records.py, which is for an older kit: python3 tools/test_records.py (half a minute; the last one needs rattle-kit-5b)"""
 import pathlib
 import shutil
 import sys
