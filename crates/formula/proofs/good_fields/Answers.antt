@@ -17,14 +17,14 @@ returns-then-leaf_kind c =
 
 pub returns-then-left-i : goal.returns-then-left-i
 returns-then-left-i c =
-        rw (by_bands, le-ltb _ 2 c.if-kind-lt-ATOM.false, ← c.leaf_kind.ensures, c.if-leaf_kind.false)
+    rw (by_bands, le-ltb _ 2 c.if-kind-lt-ATOM.false, ← c.leaf_kind.ensures, c.if-leaf_kind.false)
     (rw (lt-ltb _ 6 c.if-kind-lt-FOR_ALL.true, lt-ltb _ _ c.if-left-i.true))
 
 pub returns-then-kind-lt-FOR_ALL : goal.returns-then-kind-lt-FOR_ALL
 returns-then-kind-lt-FOR_ALL c =
-        rw (by_bands, le-ltb _ 2 c.if-kind-lt-ATOM.false, ← c.leaf_kind.ensures, c.if-leaf_kind.false)
+    rw (by_bands, le-ltb _ 2 c.if-kind-lt-ATOM.false, ← c.leaf_kind.ensures, c.if-leaf_kind.false)
     (rw (lt-ltb _ 6 c.if-kind-lt-FOR_ALL.true, le-ltb _ _ c.if-left-i.false))
 
 pub returns : goal.returns
 returns c =
-        rw (by_bands, le-ltb _ 2 c.if-kind-lt-ATOM.false, ← c.leaf_kind.ensures, c.if-leaf_kind.false, le-ltb _ 6 c.if-kind-lt-FOR_ALL.false)
+    rw (by_bands, le-ltb _ 2 c.if-kind-lt-ATOM.false, ← c.leaf_kind.ensures, c.if-leaf_kind.false, le-ltb _ 6 c.if-kind-lt-FOR_ALL.false)

@@ -1,6 +1,5 @@
 -- `store`: a place past the end is no place of the list, so `set` changes nothing either. Assumes nothing.
 use mathlib.Core.Path.{sym}
-use borrow.Author.Rules.{rules}
 use lib.Seq.{set_out}
 use Rattle.formula.proofs.store.Goals as goal
 

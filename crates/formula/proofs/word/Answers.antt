@@ -1,6 +1,5 @@
 -- `word`: past the end the list's own default is read. Assumes nothing.
 use mathlib.Core.Path.{sym}
-use borrow.Author.Rules.{rules}
 use lib.ListN.{get_or-eq_default}
 use Rattle.formula.proofs.word.Goals as goal
 
