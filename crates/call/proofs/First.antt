@@ -17,7 +17,6 @@ use Rattle.theory.specs.Written.{AllIn}
 use Rattle.theory.specs.Call.{Claim, given_words, given_book, refusal, or_zero}
 use Rattle.theory.specs.Owed as Owed
 use Rattle.theory.proofs.Passing.{passes}
-use Rattle.meter.specs.declared.State.{State}
 use Rattle.meter.specs.declared.Limits.{Limits}
 use Rattle.meter.specs.Moves.{spent}
 use Rattle.context.specs.Moves.{stretch}

@@ -9,7 +9,8 @@ use borrow.Author.Tests.{eqb-true, eq-eqb, ne_eqb}
 use lib.Dec.{eqb}
 use lib.ListN.{length, take, drop, length-drop}
 use lib.Seq.{drop-drop}
-use Rattle.theory.specs.File.{little_endian, cut_bytes, cut_number, cut_numbers, cut_count, cut_section, goal_count, Assumptions, File, cut_goals}
+use Rattle.theory.specs.File.{little_endian, cut_bytes, cut_number, cut_numbers, cut_count, cut_section, goal_count, Assumptions}
+use Rattle.theory.specs.File.{File, cut_goals}
 use Rattle.house_sections.specs.declared.Goal.{Goal}
 use Rattle.house_sections.specs.declared.Goal.TheVariants.{Missing, Index}
 use Rattle.house_sections.specs.Held.{numbers_from, goal_in}

@@ -78,7 +78,8 @@ abbrev number_at : List ℕ → ℕ → ℕ → ℕ
 number_at terms i j = get_or terms (i * node_width + j) 0
 
 module _ {words terms : List ℕ} {i k : ℕ} (n : NodeRead words terms i k) {a b c d e : ℕ} (first : a ≡ number_at terms i 1)
-    (second : b ≡ number_at terms i 2) (third : c ≡ number_at terms i 3) (fourth : d ≡ number_at terms i 4) (fifth : e ≡ number_at terms i 5)
+    (second : b ≡ number_at terms i 2) (third : c ≡ number_at terms i 3) (fourth : d ≡ number_at terms i 4)
+    (fifth : e ≡ number_at terms i 5)
   where
     in_nodes : i < length (nodes terms)
     unfolding nodes_in
@@ -87,7 +88,8 @@ module _ {words terms : List ℕ} {i k : ℕ} (n : NodeRead words terms i k) {a 
     seen : (get_or (nodes terms) i blank).piece ≡ piece_of k a b c d e
     unfolding piece_at
     seen =
-        let number : (j : ℕ) → get_or terms (j + i * node_width) 0 ≡ number_at terms i j = λ j. ap (λ (m : ℕ). get_or terms m 0) (omega arith) in
+        let number : (j : ℕ) → get_or terms (j + i * node_width) 0 ≡ number_at terms i j = λ j. ap (λ (m : ℕ). get_or terms m 0)
+        (omega arith) in
         let kind : k ≡ get_or terms (i * node_width) 0 = n.kind in
         node_at terms (length terms / node_width) i n.inside ∙ cc (number 1, number 2, number 3, number 4, number 5)
 

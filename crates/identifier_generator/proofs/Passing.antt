@@ -15,7 +15,8 @@ unfolding among
 nowhere x text e = ap (among x) (names_none text (no_entry text e))
 
 module _ (x text : List ℕ) (s : ℕ) (e : s ≡ entry_size text) (h : s ≡ 0 → ⊥) where
-  first_or_rest : among x (names_in text) ≡ (same x (take (s - 1) (drop 1 text)) || among x (names_in (take (length text - s) (drop s text))))
+  first_or_rest : among x (names_in text) ≡
+      (same x (take (s - 1) (drop 1 text)) || among x (names_in (take (length text - s) (drop s text))))
   unfolding among
   first_or_rest = ap (among x) (names_cut text s e h)
 

@@ -68,7 +68,8 @@ pub put_other : (t : List ℕ) (n : ℕ) (p : Piece) (m : ℕ) → m ≢ n →
 put_other t n p m d =
     pieces_agree (put_node t n (six_of p)) t (m * node_width) (m * node_width) (λ k h. side k h (dec_lt m n))
   where
-    side : (k : ℕ) → k < node_width → Dec (m < n) → get_or (put_node t n (six_of p)) (k + m * node_width) 0 ≡ get_or t (k + m * node_width) 0
+    side : (k : ℕ) → k < node_width → Dec (m < n) → get_or (put_node t n (six_of p)) (k + m * node_width) 0 ≡ get_or t
+        (k + m * node_width) 0
     side k h (yes l) = put_lower t n (six_of p) (k + m * node_width) (omega arith)
     side k h (no g) = put_higher t n (six_of p) (k + m * node_width) (omega (arith, six_length p)) (omega arith)
 

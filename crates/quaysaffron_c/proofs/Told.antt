@@ -1,7 +1,7 @@
 -- What is told is theory's: the kind and the numbers of an outcome and of a status, and what a test says. Assumes nothing.
 use Prim.Native.Nat.{ℕ}
 use mathlib.Core.Path.{◌≡◌, refl, sym, ap, ap₂, ◌∙◌, subst}
-use mathlib.Core.Option.{Option, none, some}
+use mathlib.Core.Option.{Option}
 use mathlib.Core.List.{List}
 use Rattle.theory.specs.Refusal.{Fault, Refused, fault_at}
 use Rattle.theory.specs.Call as C

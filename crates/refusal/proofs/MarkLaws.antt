@@ -34,7 +34,8 @@ module _ (ms : List ℕ) (s k : ℕ) (h : s < 16384) (free : mark_at ms s ≡ 0)
   sum_fits b =
       let byte : ℕ = get_or ms (byte_of s) 0 in
       let width : shift_of s + (2 + (6 - shift_of s)) ≡ 8 = omega arith in
-      let fits = put_fits byte (mark_of k) (mark_small k) (shift_of s) free (6 - shift_of s) (subst (λ (w : ℕ). byte < 2 ^ w) (sym width) b) in
+      let fits = put_fits byte (mark_of k) (mark_small k) (shift_of s) free (6 - shift_of s)
+      (subst (λ (w : ℕ). byte < 2 ^ w) (sym width) b) in
       rw shifted (subst (λ (w : ℕ). byte + mark_of k * 2 ^ shift_of s < 2 ^ w) width fits)
 
   pub sum_is : set ms (byte_of s) (get_or ms (byte_of s) 0 + mark_of k * 2 ^ shift_of s % 2 ^ 8) ≡ marked ms s (mark_of k)

@@ -34,7 +34,8 @@ module _ (ms : List ℕ) (s m : ℕ) (long : length ms ≡ 4096) (h : s < 16384)
       (put_here (get_or ms (byte_of s) 0) m small (shift_of s) free)
 
   -- two symbols that share a byte stand at two places in it
-  beside : (s' : ℕ) → s' < 16384 → s' ≢ s → byte_of s' ≡ byte_of s → bits_at (shift_of s') put ≡ bits_at (shift_of s') (get_or ms (byte_of s) 0)
+  beside : (s' : ℕ) → s' < 16384 → s' ≢ s → byte_of s' ≡ byte_of s → bits_at (shift_of s') put ≡ bits_at (shift_of s')
+      (get_or ms (byte_of s) 0)
   unfolding mark_at put
   beside s' h' n e = put_beside (get_or ms (byte_of s) 0) m small (shift_of s) free (shift_of s') (go (dec_lt s s') (dec_lt s' s))
     where
@@ -121,7 +122,8 @@ absorbed m k k₀ e = go (eqb m 0) (eqb m (mark_of k₀)) refl refl e
         (not (follows m k) || not (follows (mark_of k₀) k)) ≡ not (follows (mark_of k₀) k)
     go true b p q e = ap (λ (n : ℕ). not (follows n k) || not (follows (mark_of k₀) k)) (eqb-true m 0 p)
     go false true p q e =
-        ap (λ (n : ℕ). not (follows n k) || not (follows (mark_of k₀) k)) (eqb-true m (mark_of k₀) q) ∙ or_self (not (follows (mark_of k₀) k))
+        ap (λ (n : ℕ). not (follows n k) || not (follows (mark_of k₀) k)) (eqb-true m (mark_of k₀) q) ∙ or_self
+        (not (follows (mark_of k₀) k))
     go false false p q e = absurd (subst T (sym e) tt)
 
 module _ (ms before : List ℕ) (i w : ℕ) (known : Noted ms before) where

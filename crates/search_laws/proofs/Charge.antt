@@ -16,7 +16,6 @@ use Rattle.theory.specs.Meter.{charge, lacking, fits, count}
 use Rattle.theory.proofs.Charges.{made}
 use Rattle.meter.specs.declared.State.{State}
 use Rattle.meter.specs.declared.Limits.{Limits}
-use Rattle.meter.specs.declared.Answer.{Answer}
 use Rattle.meter.specs.declared.Answer.TheVariants.{Short}
 use Rattle.meter.specs.Moves.{most, limits_of, number_of}
 use Rattle.context.specs.Moves.{stretch}

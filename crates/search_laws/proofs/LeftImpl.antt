@@ -66,7 +66,8 @@ module _ {m : Limits} (taken : List (List ℕ)) {x : Lent} {s : State} {q : Sequ
 
   pub impl_by : {sh : Shape} → shape_at x.words (from_of x q) ≡ sh → (S : M.State) → Shows x s S → (d : ℕ) →
       rule (limited (limits_of m)) taken (asks m taken d) M.by_left (seq_of x.records q) S ≡
-      on_impl (limited (limits_of m)) taken (asks m taken d) (seq_of x.records q) S (top_entry x q) (others x q) (from_of x q) (to_of x q) sh
+      on_impl (limited (limits_of m)) taken (asks m taken d) (seq_of x.records q) S (top_entry x q) (others x q) (from_of x q)
+      (to_of x q) sh
   unfolding on_left
   impl_by a S sh d = left_by_lem taken rep some impl_shape S sh d
       ∙ ap (on_impl (limited (limits_of m)) taken (asks m taken d) (seq_of x.records q) S (top_entry x q) (others x q) (from_of x q)

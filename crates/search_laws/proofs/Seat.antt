@@ -155,7 +155,8 @@ module _ {m : Limits} {nf nt : ℕ} {w : List Rec} {q : Sequent} {us os : List E
           unordered_inside = below_more (λ (i : ℕ). Inside nf nt appended_at (q.level * stretch + i)) q.unordered
               (λ i k. inside_same (other (append_place q) (q.level * stretch + i) (omega arith)) (x.unordered_inside i k))
               (inside_written (append_place q) here);
-          ordered_inside = λ i k. inside_same (other (append_place q) (q.level * stretch + stretch - 1 - i) (omega arith)) (x.ordered_inside i k);
+          ordered_inside = λ i k. inside_same (other (append_place q) (q.level * stretch + stretch - 1 - i) (omega arith))
+              (x.ordered_inside i k);
           unordered_is = unordered_snoc appended_at q.level q.unordered
               ∙ ap₂ (λ (es : List Entry) (e : Entry). es ++ (e ∷ []))
               (unordered_same w appended_at q.level q.unordered

@@ -22,7 +22,6 @@ use Rattle.theory.proofs.Falling.{firing_counts, fire_splits}
 use Rattle.meter.specs.declared.State.{State}
 use Rattle.meter.specs.declared.Sequent.{Sequent}
 use Rattle.meter.specs.declared.Limits.{Limits}
-use Rattle.meter.specs.declared.Answer.{Answer}
 use Rattle.meter.specs.declared.Answer.TheVariants.{Found, Short}
 use Rattle.meter.specs.Moves.{spent, limits_of}
 use Rattle.context.specs.Moves.{stretch}

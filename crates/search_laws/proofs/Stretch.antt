@@ -70,8 +70,10 @@ module _ {m : Limits} {nf nt : ℕ} {w : List Rec} {q : Sequent} {us os : List E
       level_in = omega arith;
       fits = x.fits;
       goal_in = h;
-      unordered_inside = λ i k. inside_moved (q.level * stretch + i) ((q.level + 1) * stretch + i) (raised_front i k) (x.unordered_inside i k);
-      ordered_inside = λ i k. inside_moved (q.level * stretch + stretch - 1 - i) ((q.level + 1) * stretch + stretch - 1 - i) (raised_back i k)
+      unordered_inside = λ i k. inside_moved (q.level * stretch + i) ((q.level + 1) * stretch + i) (raised_front i k)
+          (x.unordered_inside i k);
+      ordered_inside = λ i k. inside_moved (q.level * stretch + stretch - 1 - i) ((q.level + 1) * stretch + stretch - 1 - i)
+          (raised_back i k)
           (x.ordered_inside i k);
       unordered_is = upto_ext q.unordered
           (λ i k. entry_by w (raised w q) (q.level * stretch + i) ((q.level + 1) * stretch + i) (raised_front i k)) ∙ x.unordered_is;

@@ -56,7 +56,8 @@ module _ (f : List ℕ) (w : List Rec) (l n i : ℕ) where
   by_kind : (b : Bool) → eqb (kind_at f (formula_at w (l * stretch + i))) 5 ≡ b → fires_by f w l n i ≡
       elim b [ true ↦ leaf_place f w l n (get_or f (left_at f (formula_at w (l * stretch + i))) 0) | false ↦ n ]
   unfolding fires_by
-  by_kind b e = ap (λ (b : Bool). elim b [ true ↦ leaf_place f w l n (get_or f (left_at f (formula_at w (l * stretch + i))) 0) | false ↦ n ]) e
+  by_kind b e = ap (λ (b : Bool). elim b
+      [ true ↦ leaf_place f w l n (get_or f (left_at f (formula_at w (l * stretch + i))) 0) | false ↦ n ]) e
 
   pub no_implication : {k : ℕ} → k ≡ kind_at f (formula_at w (l * stretch + i)) → (k ≡ 5 → ⊥) → n ≡ fires_by f w l n i
   no_implication e h = sym (by_kind false (ne_eqb _ 5 (λ z. h (e ∙ z))))

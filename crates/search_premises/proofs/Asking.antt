@@ -25,7 +25,6 @@ use Rattle.search_laws.proofs.Right.{up_made}
 use Rattle.search_laws.proofs.Branch.{back_found, back_failed}
 use Rattle.search_premises.specs.declared.Ready.{Ready}
 use Rattle.search_premises.specs.declared.Ready.TheVariants.{Go, Lacks}
-use Rattle.search_premises.specs.Prepared as Prepared
 use Rattle.search_premises.specs.Prepared.{Prepared}
 use Rattle.search_premises.specs.Asked.{Asked, lacks, asks, weigh_goal, Raised, raised_asks}
 

@@ -65,7 +65,8 @@ module _ (b : Book) where
           open_here b (set w l mark) n || some_open b (set w l mark) n ≡ is_open l || (open_here b w n || some_open b w n)
       go true e ih =
           let p : l ≡ n = eqb-true l n e in
-          subst (λ (i : ℕ). open_here b (set w i mark) n || some_open b (set w i mark) n ≡ is_open i || (open_here b w n || some_open b w n))
+          subst (λ (i : ℕ). open_here b (set w i mark) n || some_open b (set w i mark) n ≡ is_open i ||
+          (open_here b w n || some_open b w n))
           (sym p)
           (ap₂ (λ (x : Rec) (o : Bool). (not (eqb x.formula 0) && is_open n) || o)
           (get_or-set_same w n mark zeroed (omega arith)) (mark_above w n n (omega arith))

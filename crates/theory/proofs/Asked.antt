@@ -13,7 +13,8 @@ use Rattle.theory.specs.Meter.{by_search, Ask, and_then, attempt, charge, limite
 use Rattle.theory.specs.Search.{goal_up, push_up, go_on, entry, first_leaf, Fired, fire, nest, on_right, on_impl, on_left, pop_left, try_at}
 use Rattle.theory.specs.Search.{positions, halves, fire_or, rule2, on_search, rule, run}
 use Rattle.theory.specs.Premise.{Question, question, forms_of, asked, EachIn, Askable, Fires, Premise, right_and₁, right_and₂, right_impl}
-use Rattle.theory.specs.Premise.{right_else, left_true, left_leaf, left_and, left_or₁, left_or₂, true_impl, false_impl, leaf_impl, impl_impl}
+use Rattle.theory.specs.Premise.{right_else, left_true, left_leaf, left_and, left_or₁, left_or₂, true_impl, false_impl, leaf_impl}
+use Rattle.theory.specs.Premise.{impl_impl}
 use Rattle.theory.specs.Premise.{and_impl, or_impl, left_empty, search2, search3₁, search3₂, search4₁, search4₂}
 use Rattle.theory.proofs.Forms.{ext_by, ext_trans, At, at_ext, at_form, imp_new, imp_two, form_at, good_at}
 use Rattle.theory.proofs.Context.{Reads, no_more, and_more, reads_ext, reads_snoc, reads_append}

@@ -44,7 +44,8 @@ six_back (asc t a) = refl
 six_back unit = refl
 
 -- six numbers that agree say the same
-pub pieces_agree : (t u : List ℕ) (i j : ℕ) → ((k : ℕ) → k < node_width → get_or t (k + i) 0 ≡ get_or u (k + j) 0) → piece_at t i ≡ piece_at u j
+pub pieces_agree : (t u : List ℕ) (i j : ℕ) → ((k : ℕ) → k < node_width → get_or t (k + i) 0 ≡ get_or u (k + j) 0) → piece_at t i ≡
+    piece_at u j
 unfolding piece_at
 pieces_agree t u i j h =
     let a : 0 + i ≡ i = omega arith in
@@ -66,7 +67,8 @@ in_numbers_length (n ∷ ns) =
     length-append (six n) (in_numbers ns) ∙ ap₂ ◌+◌ (six_length n.piece) (in_numbers_length ns) ∙ omega arith
 
 -- one node more, decoded from the front, is one node more at the back
-pub nodes_snoc : (t : List ℕ) (i k : ℕ) → nodes_from t i (suc k) ≡ nodes_from t i k ++ (node assumed (piece_at t ((i + k) * node_width)) ∷ [])
+pub nodes_snoc : (t : List ℕ) (i k : ℕ) → nodes_from t i (suc k) ≡ nodes_from t i k ++
+    (node assumed (piece_at t ((i + k) * node_width)) ∷ [])
 unfolding nodes_from
 nodes_snoc t i zero = ap (λ (m : ℕ). node assumed (piece_at t (m * node_width)) ∷ []) (sym (add-zero i))
 nodes_snoc t i (suc k) =

@@ -59,7 +59,8 @@ stands_at k s (v ∷ vs) t =
     (or_cases (other_kind k s (shape v)) (stands_otherwise k s vs) t)
 
 -- and a symbol that does not has this kind at each
-kind_at : (k s : ℕ) (vs : List ℕ) → stands_otherwise k s vs ≡ false → (i k' : ℕ) → i < length vs → shape (get_or vs i 0) ≡ is_leaf k' s → k ≡ k'
+kind_at : (k s : ℕ) (vs : List ℕ) → stands_otherwise k s vs ≡ false → (i k' : ℕ) → i < length vs → shape (get_or vs i 0) ≡ is_leaf
+    k' s → k ≡ k'
 unfolding stands_otherwise other_kind
 kind_at k s [] e i k' h q = absurd (omega arith)
 kind_at k s (v ∷ vs) e i k' h q = go (other_kind k s (shape v)) refl e i h q (λ e i. kind_at k s vs e i k')

@@ -28,9 +28,13 @@ abbrev states : Example → List ℕ × ℕ
 states x = rust_stated x x.outcome
 
 pub rust_cases_hold : map runs (starred ++ unstarred) ≡ map states (starred ++ unstarred)
-unfolding count_trailing_zeros span climb size odd units round div of_int to_unsigned shape_of shape tree_of grow trees form same among cut_entry
-    entries_up_to names_in bytes digits leaf_text form_text given_words given_book starred unstarred name_text claim_in floored power pushes turned
+unfolding count_trailing_zeros span climb size odd units round div of_int to_unsigned shape_of shape tree_of grow trees form same
+    among cut_entry
+    entries_up_to names_in bytes digits leaf_text form_text given_words given_book starred unstarred name_text claim_in floored
+    power pushes turned
     generate equal removed find house_text question if_let_some generated generate_identifier handle_and_right handle_impl_right prove_right
-    handle_and_left handle_or_left handle_impl_left match_popped prove_left impl_impl impl_rule impl_rules or_rules atom_change change changes changed
-    id_rule impl_atom_rule after_id search' body called assumed prove_with_assumptions paired assumptions_of goal_of shown_of rust_shown rust_stated
+    handle_and_left handle_or_left handle_impl_left match_popped prove_left impl_impl impl_rule impl_rules or_rules atom_change
+    change changes changed
+    id_rule impl_atom_rule after_id search' body called assumed prove_with_assumptions paired assumptions_of goal_of shown_of
+    rust_shown rust_stated
 rust_cases_hold = refl

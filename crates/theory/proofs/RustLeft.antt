@@ -7,14 +7,16 @@ use native.Mathlib.Omega.{arith}
 use lib.ListN.{length}
 use Rattle.theory.specs.Form.{Form, imp, Shape, is_top, is_bot, is_leaf, is_and, is_or, is_imp, Book, look, tree_of}
 use Rattle.theory.specs.Form.{trees, form, Below, Ext}
-use Rattle.theory.specs.Term.{right_true, right_and, right_impl, left_false, left_and, left_or, true_impl, and_impl, or_impl, Node, node, by}
+use Rattle.theory.specs.Term.{right_true, right_and, right_impl, left_false, left_and, left_or, true_impl, and_impl, or_impl}
+use Rattle.theory.specs.Term.{Node, node, by}
 use Rattle.theory.specs.Term.{ident, pair, fst, snd, fn, app, inl, inr, case, abort, asc, unit}
 use Rattle.theory.specs.Names.{spell, fresh}
 use Rattle.theory.specs.Meter.{limited, Limits, Entry, Sequent, State, Answer, by_right, by_left, by_search, Ask}
 use Rattle.theory.specs.Search.{name, goal_up, push_up, go_on, entry, on_right, on_impl, on_left, pop_left}
 use Rattle.theory.specs.RustTerm as Rust
 use Rattle.theory.specs.RustTerm.{ProofTerm, TypeJudgment, judgment}
-use Rattle.theory.specs.RustProver.{Call, prove_right, handle_and_right, handle_impl_right, handle_and_left, handle_or_left, handle_impl_left}
+use Rattle.theory.specs.RustProver.{Call, prove_right, handle_and_right, handle_impl_right, handle_and_left, handle_or_left}
+use Rattle.theory.specs.RustProver.{handle_impl_left}
 use Rattle.theory.specs.RustProver.{match_popped, prove_left}
 use Rattle.theory.proofs.Forms.{ext_by, At, at_ext, at_form, imp_new, imp_two, form_at, good_at}
 use Rattle.theory.proofs.Derive.{fresh_above, Sane, Grows, grows_trans}

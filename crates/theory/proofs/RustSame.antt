@@ -10,7 +10,7 @@ use native.Mathlib.Decide.{dec_le}
 use native.Mathlib.Omega.{arith}
 use lib.ListN.{length, length-append}
 use Rattle.theory.specs.Form.{Form, Book, form}
-use Rattle.theory.specs.Term.{Piece, Node, node, ident, pair, fst, snd, fn, app, inl, inr, case, abort, asc, unit, term_of, grow_terms}
+use Rattle.theory.specs.Term.{Piece, Node, ident, pair, fst, snd, fn, app, inl, inr, case, abort, asc, unit, term_of, grow_terms}
 use Rattle.theory.specs.Term.{term, NodeIn}
 use Rattle.theory.specs.Names.{spell, among, skip, fresh, bytes_of}
 use Rattle.theory.specs.World.{Tree}

@@ -39,7 +39,8 @@ alike_at (suc n) p i h = go (is (generate n) (spell n)) refl p (alike_at n)
         (eq-or-lt_of_le (le_of_suc-le-suc h))
 
 computed : alike 364 ≡ true
-unfolding alike letters spell same floored power pushes turned generate span climb size odd units round div of_int to_unsigned count_trailing_zeros
+unfolding alike letters spell same floored power pushes turned generate span climb size odd units round div of_int to_unsigned
+    count_trailing_zeros
 computed = refl
 
 -- and index 364 panics

@@ -36,7 +36,8 @@ onto [] O = O
 onto (a ∷ as') O = onto as' (judgment a.1 (Rust.Ident a.0) ∷ O)
 
 assumed_onto : (as' : List (List ℕ × Form)) (O : List TypeJudgment) (G : Form) →
-    assumed as' (record { unordered_ctx = []; ordered_ctx = O; goal = G }) ≡ record { unordered_ctx = []; ordered_ctx = onto as' O; goal = G }
+    assumed as' (record { unordered_ctx = []; ordered_ctx = O; goal = G }) ≡ record
+    { unordered_ctx = []; ordered_ctx = onto as' O; goal = G }
 unfolding assumed onto
 assumed_onto [] O G = refl
 assumed_onto (a ∷ as') O G = assumed_onto as' (judgment a.1 (Rust.Ident a.0) ∷ O) G

@@ -88,7 +88,8 @@ token_ends [] [] s t a b e = (refl, e)
 token_ends [] (c ∷ y) s t a b e = absurd (no_more a (and_left (name_byte c) (name_bytes y) t) e)
 token_ends (c ∷ x) [] s t a b e = absurd (no_more b (and_left (name_byte c) (name_bytes x) s) (sym e))
 token_ends (c ∷ x) (d ∷ y) s t a b e =
-    let v = token_ends x y (and_right (name_byte c) (name_bytes x) s) (and_right (name_byte d) (name_bytes y) t) a b (tail-eq_of_cons-eq e) in
+    let v = token_ends x y (and_right (name_byte c) (name_bytes x) s) (and_right (name_byte d) (name_bytes y) t) a b
+    (tail-eq_of_cons-eq e) in
     (λ i. head-eq_of_cons-eq e i ∷ v.0 i, v.1)
 
 -- two tokens that go on alike are equal

@@ -1,10 +1,7 @@
 -- `assume` has written the assumptions before `i`. The measure is how many are left. Assumes nothing.
-use borrow.Author.Rules.{rules}
-use Prim.Native.Nat.{◌-◌}
 use native.Mathlib.Omega.{arith}
-use lib.ListN.{length}
 use Rattle.theory.specs.Term.{six_of}
-use Rattle.call.proofs.Seating.{Seating, seating_starts, seating_free, seating_goes, seating_ends}
+use Rattle.call.proofs.Seating.{seating_starts, seating_free, seating_goes, seating_ends}
 use Rattle.call.proofs.assume.Goals as goal
 
 pub loop-i-init : goal.loop-i-init
@@ -13,7 +10,7 @@ loop-i-init c =
 
 pub push-sequent-requires : goal.push-sequent-requires
 push-sequent-requires c =
-        seating_free _ _ _ _ c.loop-i.invariant c.loop-i-test.true c.requires
+    seating_free _ _ _ _ c.loop-i.invariant c.loop-i-test.true c.requires
 
 pub loop-i-smaller : goal.loop-i-smaller
 loop-i-smaller c =
@@ -23,7 +20,7 @@ pub loop-i-preserved : goal.loop-i-preserved
 unfolding six_of
 loop-i-preserved c =
     let p = c.push-sequent.ensures in
-            seating_goes _ _ _ _ c.loop-i.invariant c.loop-i-test.true c.assumption.ensures c.put.ensures
+    seating_goes _ _ _ _ c.loop-i.invariant c.loop-i-test.true c.assumption.ensures c.put.ensures
     p.work p.result
 
 pub shape_of-terms : goal.shape_of-terms

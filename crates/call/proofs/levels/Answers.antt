@@ -1,5 +1,4 @@
 -- `levels`: the records give the level. Assumes nothing.
-use borrow.Author.Rules.{rules}
 use Rattle.theory.specs.Call.{or_zero}
 use Rattle.refusal.specs.Answers.{level_of}
 use Rattle.call.proofs.levels.Goals as goal

@@ -1,5 +1,4 @@
 -- `limits`: each limit is what is lent. Assumes nothing.
-use borrow.Author.Rules.{rules}
 use Rattle.call.proofs.limits.Goals as goal
 
 pub returns : goal.returns

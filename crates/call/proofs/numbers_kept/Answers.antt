@@ -7,7 +7,7 @@ use Rattle.call.proofs.numbers_kept.Goals as goal
 
 pub overflow_mul-result : goal.overflow_mul-result
 overflow_mul-result c =
-        let few : c.in-Found.s.terms ≤ 16384 = subst keeps c.in-Found.is c.requires in
+    let few : c.in-Found.s.terms ≤ 16384 = subst keeps c.in-Found.is c.requires in
     search rules
 
 pub returns-in-Found : goal.returns-in-Found

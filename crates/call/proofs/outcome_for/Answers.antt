@@ -1,5 +1,4 @@
 -- `outcome_for`: the answer's case tells. Assumes nothing.
-use borrow.Author.Rules.{rules}
 use mathlib.Core.Path.{sym, ap}
 use Rattle.call.specs.Outcomes.{outcome_for}
 use Rattle.call.proofs.outcome_for.Goals as goal

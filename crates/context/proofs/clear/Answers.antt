@@ -1,6 +1,5 @@
 -- `clear` has zeroed the records before `i`. The measure is what is left of the work area. Assumes nothing.
-use borrow.Author.Rules.{rules}
-use Prim.Native.Nat.{ℕ, ◌+◌, ◌-◌, ◌≤◌}
+use Prim.Native.Nat.{ℕ, ◌+◌, ◌-◌}
 use mathlib.Core.Path.{◌≡◌, ap, sym, subst, ◌∙◌}
 use mathlib.Core.List.{List}
 use native.Mathlib.Omega.{arith}
@@ -19,7 +18,7 @@ loop-i-smaller c =
 
 pub loop-i-preserved : goal.loop-i-preserved
 loop-i-preserved c =
-        let w₀ = c.args.work.now in
+    let w₀ = c.args.work.now in
     let more = clearing_goes zeroed w₀ 0 c.loop-i.invariant.1 (omega arith) in
     let written = subst (λ (v : List Rec). Clearing zeroed w₀ 0 (c.loop-i.i + 1) v) (sym c.write.ensures) more in
     (omega (arith, c.loop-i.invariant.1.long), written)
@@ -30,6 +29,6 @@ shape_of-work c =
 
 pub returns : goal.returns
 returns c =
-        let all : length c.args.work.now - 0 ≡ length c.args.work.now = omega arith in
+    let all : length c.args.work.now - 0 ≡ length c.args.work.now = omega arith in
     clearing_ends zeroed c.args.work.now 0 c.loop-i.invariant.1 (omega (arith, c.loop-i.invariant.1.long)) c.loop-i.invariant.0
     ∙ ap (λ (n : ℕ). replicate n zeroed) all

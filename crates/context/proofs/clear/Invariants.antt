@@ -1,12 +1,8 @@
 -- `clear` has zeroed the records before `i`. The measure is what is left of the work area. Assumes nothing.
-use borrow.Author.Rules.{rules}
-use Prim.Native.Nat.{ℕ, ◌+◌, ◌-◌, ◌≤◌}
-use mathlib.Core.Path.{◌≡◌, ap, sym, subst, ◌∙◌}
-use mathlib.Core.List.{List}
-use native.Mathlib.Omega.{arith}
-use lib.ListN.{length, replicate}
-use Rattle.theory.proofs.Cleared.{Clearing, clearing_starts, clearing_goes, clearing_ends}
-use Rattle.context.specs.Area.{Rec, zeroed}
+use Prim.Native.Nat.{◌-◌, ◌≤◌}
+use lib.ListN.{length}
+use Rattle.theory.proofs.Cleared.{Clearing}
+use Rattle.context.specs.Area.{zeroed}
 use Rattle.context.proofs.clear.Given as goal
 
 abbrev pub invariant-loop-i : goal.invariant-loop-i

@@ -1,9 +1,6 @@
 -- `copy_run` meets its contract: what is left to copy is the same from the loop's place as from its start. Assumes nothing.
 use borrow.Author.Rules.{rules}
-use mathlib.Core.Path.{◌≡◌, refl, sym, ◌∙◌}
-use Prim.Native.Nat.{◌+◌, ◌≤◌}
-use lib.ListN.{length}
-use Rattle.context.specs.Area.{copies}
+use mathlib.Core.Path.{refl, sym, ◌∙◌}
 use Rattle.context.proofs.Laws.{copies_step, copies_end}
 use Rattle.context.proofs.copy_run.Goals as goal
 

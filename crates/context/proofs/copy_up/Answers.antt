@@ -1,7 +1,6 @@
 -- `copy_up` meets its contract: two runs, the unordered records and the ordered ones. Assumes nothing.
 use Prim.Native.Nat.{◌+◌, ◌-◌, ◌*◌}
 use mathlib.Core.Path.{ap, ◌∙◌}
-use borrow.Author.Rules.{rules}
 use Rattle.context.specs.Area.{raised, copies}
 use Rattle.context.specs.Moves.{stretch}
 use Rattle.context.proofs.copy_up.Goals as goal

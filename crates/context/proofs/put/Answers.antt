@@ -1,5 +1,4 @@
 -- `put` meets its contract: out of range the store does nothing. Assumes nothing.
-use borrow.Author.Rules.{rules}
 use mathlib.Core.Path.{sym}
 use lib.Seq.{set_out}
 use Rattle.context.proofs.put.Goals as goal

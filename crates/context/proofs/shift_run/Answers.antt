@@ -1,9 +1,6 @@
 -- `shift_run` meets its contract: what is left to move is the same from the loop's place as from its start. Assumes nothing.
 use borrow.Author.Rules.{rules}
-use mathlib.Core.Path.{◌≡◌, refl, sym, ◌∙◌}
-use Prim.Native.Nat.{◌+◌, ◌<◌}
-use lib.ListN.{length}
-use Rattle.context.specs.Area.{shifts}
+use mathlib.Core.Path.{refl, sym, ◌∙◌}
 use Rattle.context.proofs.Laws.{shifts_step, shifts_end}
 use Rattle.context.proofs.shift_run.Goals as goal
 

@@ -1,14 +1,13 @@
 -- `shift_run` meets its contract: what is left to move is the same from the loop's place as from its start. Assumes nothing.
-use borrow.Author.Rules.{rules}
-use mathlib.Core.Path.{◌≡◌, refl, sym, ◌∙◌}
+use mathlib.Core.Path.{◌≡◌}
 use Prim.Native.Nat.{◌+◌, ◌<◌}
 use lib.ListN.{length}
 use Rattle.context.specs.Area.{shifts}
-use Rattle.context.proofs.Laws.{shifts_step, shifts_end}
 use Rattle.context.proofs.shift_run.Given as goal
 
 abbrev pub invariant-loop-left : goal.invariant-loop-left
-invariant-loop-left l = (length l.work ≡ length l.initial.work) × (l.j + l.left < length l.initial.work) × (shifts l.left l.j l.work ≡ shifts l.initial.left l.initial.j l.initial.work)
+invariant-loop-left l = (length l.work ≡ length l.initial.work) × (l.j + l.left < length l.initial.work) ×
+    (shifts l.left l.j l.work ≡ shifts l.initial.left l.initial.j l.initial.work)
 
 abbrev pub decreases-loop-left : goal.decreases-loop-left
 decreases-loop-left l = l.left

@@ -1,5 +1,4 @@
 -- `term_at` meets its contract: a read out of range gives two zeros. Assumes nothing.
-use borrow.Author.Rules.{rules}
 use mathlib.Core.Path.{sym, ap, ◌∙◌}
 use lib.ListN.{get_or-eq_default}
 use Rattle.context.specs.Area.{Rec, zeroed}

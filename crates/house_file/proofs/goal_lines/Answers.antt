@@ -1,14 +1,13 @@
 -- `goal_lines` fills the arrays, searches, and lays the lines of the answer. Assumes nothing.
-use borrow.Author.Rules.{rules}
 use native.Mathlib.Omega.{arith}
 use Prim.Native.Nat.{ℕ, ◌+◌, ◌*◌, ◌≤◌}
-use mathlib.Core.Path.{◌≡◌, sym, ap, ◌∙◌, subst}
+use mathlib.Core.Path.{sym, ap, ◌∙◌, subst}
 use mathlib.Core.List.{List}
-use lib.ListN.{length, take, drop, length-replicate}
+use lib.ListN.{length, drop, length-replicate}
 use Rattle.theory.specs.NameText.{padded}
 use Rattle.house_sections.specs.Held.{indices_from, text_from}
 use Rattle.house_file.proofs.Filled.{indices_many, laid_size, laid_inside}
-use Rattle.house_file.proofs.Whole.{goal_room, Settled, settled}
+use Rattle.house_file.proofs.Whole.{goal_room, settled}
 use Rattle.house_file.proofs.goal_lines.Goals as goal
 
 pub fill_words-requires : goal.fill_words-requires
@@ -20,7 +19,7 @@ fill_words-requires c =
 
 pub slice_bounds-search_claim-end-2 : goal.slice_bounds-search_claim-end-2
 slice_bounds-search_claim-end-2 c =
-        let args = c.args in
+    let args = c.args in
     let entries = drop (4 + 4 * args.formulas) args.file.now in
     laid_size args.assumptions (indices_from args.assumptions entries) args.indices.now c.fill_indices.new.indices
     c.fill_indices.ensures (sym (indices_many args.assumptions entries))
@@ -47,26 +46,32 @@ slice_bounds-answer_lines-end-2 c =
 
 pub answer_lines-requires : goal.answer_lines-requires
 answer_lines-requires c =
-        let args = c.args in
+    let args = c.args in
     let s =
     settled c.args.formulas c.args.assumptions c.args.goal c.args.file.now c.args.words.now c.fill_words.new.words
     c.args.indices.now c.fill_indices.new.indices c.args.names.now c.fill_names-size.new.text c.fill_names-size.result
     c.args.terms.now c.search_claim-outcome.new.words c.search_claim-outcome.new.terms c.search_claim-outcome.result c.requires.seen
     c.requires.words c.requires.terms c.fill_words.ensures c.fill_indices.ensures c.fill_names-size.ensures.text
-    c.fill_names-size.ensures.length c.search_claim-outcome.ensures in record { printable = s.printable; room = subst (λ (xs : List ℕ). length xs ≤ length args.out.now) (sym s.lines)
+    c.fill_names-size.ensures.length c.search_claim-outcome.ensures in record {
+      printable = s.printable;
+      room = subst (λ (xs : List ℕ). length xs ≤ length args.out.now) (sym s.lines)
           (omega (
             arith,
             goal_room args.formulas args.assumptions args.goal args.file.now c.requires.tested,
             c.requires.room,
-          )) }
+          ));
+    }
 
 pub returns : goal.returns
 returns c =
-        let args = c.args in
+    let args = c.args in
     let s =
     settled c.args.formulas c.args.assumptions c.args.goal c.args.file.now c.args.words.now c.fill_words.new.words
     c.args.indices.now c.fill_indices.new.indices c.args.names.now c.fill_names-size.new.text c.fill_names-size.result
     c.args.terms.now c.search_claim-outcome.new.words c.search_claim-outcome.new.terms c.search_claim-outcome.result c.requires.seen
     c.requires.words c.requires.terms c.fill_words.ensures c.fill_indices.ensures c.fill_names-size.ensures.text
     c.fill_names-size.ensures.length c.search_claim-outcome.ensures in
-    let laid = c.answer_lines in record { out = laid.ensures.out ∙ ap (padded (length args.out.now)) s.lines; length = laid.ensures.length ∙ ap length s.lines }
+    let laid = c.answer_lines in record {
+      out = laid.ensures.out ∙ ap (padded (length args.out.now)) s.lines;
+      length = laid.ensures.length ∙ ap length s.lines;
+    }

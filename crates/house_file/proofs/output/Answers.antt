@@ -1,5 +1,4 @@
 -- `output` tests the file and prints 14, or lays the lines of its goal. Assumes nothing.
-use borrow.Author.Rules.{rules}
 use native.Mathlib.Omega.{arith}
 use Prim.Native.Nat.{ℕ, ◌≤◌}
 use mathlib.Core.Path.{◌≡◌, sym, ap, ap₂, ◌∙◌, subst}
@@ -22,17 +21,28 @@ refused-requires c =
 
 pub held_output-requires : goal.held_output-requires
 held_output-requires c =
-        let bs = c.args.file.now in
-    let tested = c.test_file in record { tested = is_decoded c.in-Held.formulas c.in-Held.assumptions c.in-Held.goal bs
-          (ap (λ (s : Sections). held_by s bs) (sym c.in-Held.is) ∙ tested.ensures.held); seen = subst (λ (s : Sections). Fits s bs) c.in-Held.is tested.ensures.fits; room = omega arith }
+    let bs = c.args.file.now in
+    let tested = c.test_file in record {
+      tested = is_decoded c.in-Held.formulas c.in-Held.assumptions c.in-Held.goal bs
+          (ap (λ (s : Sections). held_by s bs) (sym c.in-Held.is) ∙ tested.ensures.held);
+      seen = subst
+          (λ (s : Sections). Fits s bs) c.in-Held.is tested.ensures.fits;
+      room = omega arith;
+    }
 
 pub returns-in-BadFile : goal.returns-in-BadFile
 returns-in-BadFile c =
-        let bs = c.args.file.now in
+    let bs = c.args.file.now in
     let tested = c.test_file in
     let bad = printed_bad bs (ap (λ (s : Sections). held_by s bs) (sym c.in-BadFile.is) ∙ tested.ensures.held) in
-    let room : length c.args.out.now ≡ 32835 = omega arith in record { out = c.refused.ensures.out ∙ ap₂ padded room (sym bad); length = c.refused.ensures.length ∙ ap length (sym bad) }
+    let room : length c.args.out.now ≡ 32835 = omega arith in record {
+      out = c.refused.ensures.out ∙ ap₂ padded room (sym bad);
+      length = c.refused.ensures.length ∙ ap length (sym bad);
+    }
 
 pub returns-in-Held : goal.returns-in-Held
 returns-in-Held c =
-        let room : length c.args.out.now ≡ 32835 = omega arith in record { out = c.held_output.ensures.out ∙ ap (λ (n : ℕ). padded n (printed c.args.file.now)) room; length = c.held_output.ensures.length }
+    let room : length c.args.out.now ≡ 32835 = omega arith in record {
+      out = c.held_output.ensures.out ∙ ap (λ (n : ℕ). padded n (printed c.args.file.now)) room;
+      length = c.held_output.ensures.length;
+    }

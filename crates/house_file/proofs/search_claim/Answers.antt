@@ -1,5 +1,4 @@
 -- `search_claim` lends a work area of 16,384 records, and says nothing of it afterwards. Assumes nothing.
-use borrow.Author.Rules.{rules}
 use Prim.Native.Nat.{ℕ}
 use mathlib.Core.Path.{◌≡◌, ap, ◌∙◌, subst}
 use mathlib.Core.List.{List}

@@ -2,10 +2,9 @@
 use Rattle.theory.specs.File.{line, counted}
 use Rattle.house_text.specs.Laid.{joined}
 use Rattle.house_text.proofs.Laying.{laid_then}
-use borrow.Author.Rules.{rules}
 use Rattle.house_lines.proofs.lay_counted.Goals as goal
 
 pub returns : goal.returns
 unfolding joined line counted
 returns c =
-                laid_then (laid_then c.lay-next.ensures c.lay_decimal-end.ensures) c.lay.ensures
+    laid_then (laid_then c.lay-next.ensures c.lay_decimal-end.ensures) c.lay.ensures

@@ -2,10 +2,9 @@
 use Rattle.theory.specs.File.{line}
 use Rattle.house_text.specs.Laid.{joined}
 use Rattle.house_text.proofs.Laying.{laid_then}
-use borrow.Author.Rules.{rules}
 use Rattle.house_lines.proofs.lay_line.Goals as goal
 
 pub returns : goal.returns
 unfolding joined line
 returns c =
-            laid_then c.lay-next.ensures c.lay.ensures
+    laid_then c.lay-next.ensures c.lay.ensures

@@ -1,17 +1,19 @@
 -- `proved` lays its lines and clears the rest. Assumes nothing.
 use Rattle.theory.specs.File.{proved_with}
 use Rattle.house_lines.proofs.Filling.{end_inside, end_is_size, filled}
-use borrow.Author.Rules.{rules}
 use Rattle.house_lines.proofs.proved.Goals as goal
 
 pub clear_from-requires : goal.clear_from-requires
 clear_from-requires c =
-            let args = c.args in
+    let args = c.args in
     end_inside (proved_with args.steps args.names args.formulas args.terms args.text.now)
     c.lay_proved-end.ensures c.requires.room
 
 pub returns : goal.returns
 returns c =
-                let args = c.args in
+    let args = c.args in
     let lines = proved_with args.steps args.names args.formulas args.terms args.text.now in
-    let laid = c.lay_proved-end.ensures in record { out = filled lines laid c.requires.room c.clear_from.ensures; length = end_is_size lines laid c.requires.room }
+    let laid = c.lay_proved-end.ensures in record {
+      out = filled lines laid c.requires.room c.clear_from.ensures;
+      length = end_is_size lines laid c.requires.room;
+    }

@@ -1,6 +1,6 @@
 -- `copy` has copied the bytes before `i`. The measure is what is left of the part. Assumes nothing.
 use native.Mathlib.Omega.{arith}
-use Prim.Native.Nat.{◌+◌, ◌-◌, ◌≤◌}
+use Prim.Native.Nat.{◌+◌}
 use mathlib.Core.List.{List}
 use Prim.Native.Nat.{ℕ}
 use mathlib.Core.Path.{◌≡◌, sym, ap, ◌∙◌}
@@ -43,7 +43,7 @@ loop-i-smaller c =
 
 pub loop-i-preserved : goal.loop-i-preserved
 loop-i-preserved c =
-        let args = c.args in (
+    let args = c.args in (
       omega arith,
       ap (λ (t : List ℕ). set t (args.at + c.loop-i.i) (get_or args.part.now c.loop-i.i 0)) c.loop-i.invariant.1
           ∙ paste-suc args.text.now args.at args.part.now c.loop-i.i 0 (omega arith) (omega arith)

@@ -1,8 +1,8 @@
 -- `entries_end` has passed whole assumptions up to `at`. The measure is the number of those still to come. Assumes nothing.
 use native.Mathlib.Omega.{arith}
-use Prim.Native.Nat.{ℕ, ◌+◌, ◌≤◌}
+use Prim.Native.Nat.{ℕ, ◌+◌}
 use mathlib.Core.Path.{◌≡◌, refl, sym, ap, ◌∙◌}
-use lib.ListN.{length, drop}
+use lib.ListN.{drop}
 use Rattle.house_sections.specs.Held.{entries_end}
 use Rattle.house_sections.proofs.Cursor.{index_missing, name_missing, entry_passed}
 use Rattle.house_sections.proofs.entries_end.Goals as goal
@@ -17,7 +17,7 @@ overflow_sub-rest c =
 
 pub returns-then-rest-lt3 : goal.returns-then-rest-lt3
 returns-then-rest-lt3 c =
-        sym (c.loop-left.invariant.1 ∙ index_missing c.args.file.now c.loop-left.at c.loop-left.left (omega arith) c.if-rest-lt3.true)
+    sym (c.loop-left.invariant.1 ∙ index_missing c.args.file.now c.loop-left.at c.loop-left.left (omega arith) c.if-rest-lt3.true)
 
 pub overflow_add-size : goal.overflow_add-size
 overflow_add-size c =
@@ -37,7 +37,7 @@ overflow_add-size-in-loop-left c =
 
 pub returns-then-rest-size : goal.returns-then-rest-size
 returns-then-rest-size c =
-        sym (c.loop-left.invariant.1
+    sym (c.loop-left.invariant.1
     ∙ name_missing c.args.file.now c.loop-left.at c.loop-left.left (omega arith) c.if-rest-lt3.false
     c.if-rest-size.true)
 
@@ -54,13 +54,12 @@ loop-left-smaller c =
     omega arith
 
 pub loop-left-preserved : goal.loop-left-preserved
-loop-left-preserved c =
-    (
-      omega arith,
-      c.loop-left.invariant.1
-          ∙ entry_passed c.args.file.now c.loop-left.at c.loop-left.left (omega arith) c.if-rest-lt3.false
-          c.if-rest-size.false,
-    )
+loop-left-preserved c = (
+  omega arith,
+  c.loop-left.invariant.1
+      ∙ entry_passed c.args.file.now c.loop-left.at c.loop-left.left (omega arith) c.if-rest-lt3.false
+      c.if-rest-size.false,
+)
 
 pub returns : goal.returns
 unfolding entries_end

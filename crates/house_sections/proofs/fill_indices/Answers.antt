@@ -1,27 +1,27 @@
 -- `fill_indices` has copied the indices of i assumptions. The measure is the number of those still to come. Assumes nothing.
 use native.Mathlib.Omega.{arith}
-use Prim.Native.Nat.{◌+◌, ◌-◌, ◌≤◌, ◌<◌}
+use Prim.Native.Nat.{◌+◌, ◌≤◌, ◌<◌}
 use lib.ListN.{length, get_or}
-use Rattle.house_sections.proofs.Walking.{Indices, no_indices, indices_copied, index_inside, size_inside, index_copied}
+use Rattle.house_sections.proofs.Walking.{no_indices, indices_copied, index_inside, size_inside, index_copied}
 use Rattle.house_sections.proofs.fill_indices.Goals as goal
 use Rattle.house_sections.proofs.fill_indices.Goals.{In-loop-i}
 
 -- an assumption that is still to come is inside the file
 index_in : (c : In-loop-i) → c.loop-i.at + 2 < length c.args.file.now
 index_in c =
-        index_inside c.args.file.now c.args.from c.args.count c.args.indices.now c.loop-i.at
+    index_inside c.args.file.now c.args.from c.args.count c.args.indices.now c.loop-i.at
     c.loop-i.i c.loop-i.indices c.loop-i.invariant (omega arith)
 
 size_in : (c : In-loop-i) →
     c.loop-i.at + (get_or c.args.file.now (c.loop-i.at + 2) 0 + 3) ≤
     length c.args.file.now
 size_in c =
-        size_inside c.args.file.now c.args.from c.args.count c.args.indices.now c.loop-i.at
+    size_inside c.args.file.now c.args.from c.args.count c.args.indices.now c.loop-i.at
     c.loop-i.i c.loop-i.indices c.loop-i.invariant (omega arith)
 
 pub loop-i-init : goal.loop-i-init
 loop-i-init c =
-        no_indices c.args.file.now c.args.from c.args.count c.args.indices.now c.requires.inside
+    no_indices c.args.file.now c.args.from c.args.count c.args.indices.now c.requires.inside
     c.requires.whole
 
 pub number_at-requires : goal.number_at-requires
@@ -70,7 +70,7 @@ loop-i-smaller c =
 
 pub loop-i-preserved : goal.loop-i-preserved
 loop-i-preserved c =
-            index_copied c.args.file.now c.args.from c.args.count c.args.indices.now c.loop-i.at
+    index_copied c.args.file.now c.args.from c.args.count c.args.indices.now c.loop-i.at
     c.loop-i.i c.loop-i.indices c.loop-i.invariant (omega arith) c.number_at.result (omega arith)
     c.number_at.ensures.result
 
@@ -80,5 +80,5 @@ shape_of-indices c =
 
 pub returns : goal.returns
 returns c =
-        indices_copied c.args.file.now c.args.from c.args.count c.args.indices.now c.loop-i.at
+    indices_copied c.args.file.now c.args.from c.args.count c.args.indices.now c.loop-i.at
     c.loop-i.i c.loop-i.indices c.loop-i.invariant (omega arith)

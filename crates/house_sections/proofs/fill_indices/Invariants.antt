@@ -1,8 +1,6 @@
 -- `fill_indices` has copied the indices of i assumptions. The measure is the number of those still to come. Assumes nothing.
-use native.Mathlib.Omega.{arith}
-use Prim.Native.Nat.{◌+◌, ◌-◌, ◌≤◌, ◌<◌}
-use lib.ListN.{length, get_or}
-use Rattle.house_sections.proofs.Walking.{Indices, no_indices, indices_copied, index_inside, size_inside, index_copied}
+use Prim.Native.Nat.{◌-◌}
+use Rattle.house_sections.proofs.Walking.{Indices}
 use Rattle.house_sections.proofs.fill_indices.Given as goal
 
 abbrev pub invariant-loop-i : goal.invariant-loop-i

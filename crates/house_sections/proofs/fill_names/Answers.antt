@@ -2,7 +2,7 @@
 use native.Mathlib.Omega.{arith}
 use Prim.Native.Nat.{◌+◌, ◌≤◌}
 use lib.ListN.{length, get_or}
-use Rattle.house_sections.proofs.Walking.{Names, no_names, names_copied, name_inside, part_size, name_copied}
+use Rattle.house_sections.proofs.Walking.{no_names, names_copied, name_inside, part_size, name_copied}
 use Rattle.house_sections.proofs.fill_names.Goals as goal
 use Rattle.house_sections.proofs.fill_names.Goals.{In-loop-left}
 
@@ -11,12 +11,12 @@ name_in : (c : In-loop-left) →
     c.loop-left.at + (get_or c.args.file.now (c.loop-left.at + 2) 0 + 3) ≤
     length c.args.file.now
 name_in c =
-        name_inside c.args.file.now c.args.from c.args.count c.args.text.now c.loop-left.at
+    name_inside c.args.file.now c.args.from c.args.count c.args.text.now c.loop-left.at
     c.loop-left.filled c.loop-left.left c.loop-left.text c.loop-left.invariant (omega arith)
 
 pub loop-left-init : goal.loop-left-init
 loop-left-init c =
-        no_names c.args.file.now c.args.from c.args.count c.args.text.now c.requires.inside c.requires.whole
+    no_names c.args.file.now c.args.from c.args.count c.args.text.now c.requires.inside c.requires.whole
 
 pub overflow_add-start : goal.overflow_add-start
 overflow_add-start c =
@@ -52,7 +52,7 @@ slice_bounds-copy-end c =
 
 pub copy-requires : goal.copy-requires
 copy-requires c =
-            omega (
+    omega (
       arith,
       name_in (goal.at.copy-requires c).In-loop-left,
       part_size c.args.file.now c.args.from c.args.count c.args.text.now c.loop-left.at
@@ -64,7 +64,7 @@ copy-requires c =
 
 pub overflow_add-filled : goal.overflow_add-filled
 overflow_add-filled c =
-        omega (arith, name_in (goal.at.overflow_add-filled c).In-loop-left, c.loop-left.invariant.within)
+    omega (arith, name_in (goal.at.overflow_add-filled c).In-loop-left, c.loop-left.invariant.within)
 
 pub overflow_sub-left : goal.overflow_sub-left
 overflow_sub-left c =
@@ -76,7 +76,7 @@ loop-left-smaller c =
 
 pub loop-left-preserved : goal.loop-left-preserved
 loop-left-preserved c =
-            name_copied c.args.file.now c.args.from c.args.count c.args.text.now c.loop-left.at
+    name_copied c.args.file.now c.args.from c.args.count c.args.text.now c.loop-left.at
     c.loop-left.filled c.loop-left.left c.loop-left.text c.loop-left.invariant (omega arith) c.copy.new.text
     c.requires.room c.copy.ensures
 
@@ -86,6 +86,10 @@ shape_of-text c =
 
 pub returns : goal.returns
 returns c =
-    record { text = (names_copied c.args.file.now c.args.from c.args.count c.args.text.now c.loop-left.at
-    c.loop-left.filled c.loop-left.left c.loop-left.text c.loop-left.invariant (omega arith)).0; length = (names_copied c.args.file.now c.args.from c.args.count c.args.text.now c.loop-left.at
-    c.loop-left.filled c.loop-left.left c.loop-left.text c.loop-left.invariant (omega arith)).1 }
+    record {
+      text = (names_copied c.args.file.now c.args.from c.args.count c.args.text.now c.loop-left.at
+          c.loop-left.filled c.loop-left.left c.loop-left.text c.loop-left.invariant (omega arith)).0;
+      length =
+          (names_copied c.args.file.now c.args.from c.args.count c.args.text.now c.loop-left.at
+          c.loop-left.filled c.loop-left.left c.loop-left.text c.loop-left.invariant (omega arith)).1;
+    }

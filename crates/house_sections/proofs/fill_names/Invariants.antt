@@ -1,8 +1,5 @@
 -- `fill_names` has copied the names before `at`. The measure is the number of those still to come. Assumes nothing.
-use native.Mathlib.Omega.{arith}
-use Prim.Native.Nat.{◌+◌, ◌≤◌}
-use lib.ListN.{length, get_or}
-use Rattle.house_sections.proofs.Walking.{Names, no_names, names_copied, name_inside, part_size, name_copied}
+use Rattle.house_sections.proofs.Walking.{Names}
 use Rattle.house_sections.proofs.fill_names.Given as goal
 
 abbrev pub invariant-loop-left : goal.invariant-loop-left

@@ -1,7 +1,6 @@
 -- `fill_words` has copied i words. The measure is the number of words still to come. Assumes nothing.
 use native.Mathlib.Omega.{arith}
-use Prim.Native.Nat.{◌-◌}
-use Rattle.house_sections.proofs.Walking.{Words, no_words, word_copied, words_copied}
+use Rattle.house_sections.proofs.Walking.{no_words, word_copied, words_copied}
 use Rattle.house_sections.proofs.fill_words.Goals as goal
 
 pub loop-i-init : goal.loop-i-init
@@ -42,7 +41,7 @@ loop-i-smaller c =
 
 pub loop-i-preserved : goal.loop-i-preserved
 loop-i-preserved c =
-            word_copied c.args.file.now c.args.count c.args.words.now c.loop-i.i c.loop-i.words
+    word_copied c.args.file.now c.args.count c.args.words.now c.loop-i.i c.loop-i.words
     c.number_at.result c.loop-i.invariant (omega arith) (omega arith) c.number_at.ensures.result
 
 pub shape_of-words : goal.shape_of-words
@@ -51,5 +50,5 @@ shape_of-words c =
 
 pub returns : goal.returns
 returns c =
-        words_copied c.args.file.now c.args.count c.args.words.now c.loop-i.i c.loop-i.words
+    words_copied c.args.file.now c.args.count c.args.words.now c.loop-i.i c.loop-i.words
     c.loop-i.invariant (omega arith)

@@ -1,7 +1,6 @@
 -- `fill_words` has copied i words. The measure is the number of words still to come. Assumes nothing.
-use native.Mathlib.Omega.{arith}
 use Prim.Native.Nat.{◌-◌}
-use Rattle.house_sections.proofs.Walking.{Words, no_words, word_copied, words_copied}
+use Rattle.house_sections.proofs.Walking.{Words}
 use Rattle.house_sections.proofs.fill_words.Given as goal
 
 abbrev pub invariant-loop-i : goal.invariant-loop-i

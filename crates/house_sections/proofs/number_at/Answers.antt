@@ -5,14 +5,14 @@ use lib.ListN.{take, drop}
 use Rattle.theory.specs.File.{little_endian}
 use Prim.Native.Nat.{ℕ, ◌+◌, ◌-◌, ◌^◌, ◌<◌}
 use mathlib.Core.Path.{◌∙◌, ap, subst}
-use Rattle.house_sections.proofs.Numbers.{Read, none_read, byte_read, in_four}
+use Rattle.house_sections.proofs.Numbers.{none_read, byte_read, in_four}
 use Rattle.house_sections.proofs.number_at.Goals as goal
 use Rattle.house_sections.proofs.number_at.Goals.{After-shared_slice_known-1}
 
 -- what is read so far has at most 32 bits
 small : (c : After-shared_slice_known-1) → c.loop-left.number < 4294967296
 small c =
-        in_four (c.args.width - c.loop-left.left) c.loop-left.number (omega (arith, c.requires.narrow)) c.loop-left.invariant.below
+    in_four (c.args.width - c.loop-left.left) c.loop-left.number (omega (arith, c.requires.narrow)) c.loop-left.invariant.below
 
 pub loop-left-init : goal.loop-left-init
 loop-left-init c =
@@ -48,13 +48,17 @@ loop-left-smaller c =
 
 pub loop-left-preserved : goal.loop-left-preserved
 loop-left-preserved c =
-        let place = c.args.at + (c.loop-left.left - 1) in
+    let place = c.args.at + (c.loop-left.left - 1) in
     byte_read c.args.file.now c.args.at c.args.width c.requires.inside c.loop-left.number
     c.loop-left.left c.loop-left.invariant (omega arith) (omega (arith, c.shared_slice_known-1.given place))
 
 pub returns : goal.returns
 returns c =
-        let args = c.args in
+    let args = c.args in
     let none : c.loop-left.left ≡ 0 = omega arith in
-    let all : c.args.width - c.loop-left.left ≡ c.args.width = omega arith in record { result = c.loop-left.invariant.value
-          ∙ ap (λ (k : ℕ). little_endian (drop k (take args.width (drop args.at args.file.now)))) none; bounded = subst (λ (k : ℕ). c.loop-left.number < 256 ^ k) all c.loop-left.invariant.below }
+    let all : c.args.width - c.loop-left.left ≡ c.args.width = omega arith in record {
+      result = c.loop-left.invariant.value
+          ∙ ap (λ (k : ℕ). little_endian (drop k (take args.width (drop args.at args.file.now)))) none;
+      bounded = subst
+          (λ (k : ℕ). c.loop-left.number < 256 ^ k) all c.loop-left.invariant.below;
+    }

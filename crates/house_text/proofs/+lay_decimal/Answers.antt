@@ -1,15 +1,13 @@
 -- `lay_decimal` lays the digits before the last one and then that one. The measure is the number. Assumes nothing.
-use borrow.Author.Rules.{rules}
 use native.Mathlib.Omega.{arith}
 use Rattle.house_text.proofs.Laying.{laid_digit, laid_digits}
-use Prim.Native.Nat.{ℕ, ◌<◌}
 use Rattle.house_text.proofs.+lay_decimal.Goals as goal
 
 pub returns-then-n-lt10 : goal.returns-then-n-lt10
 returns-then-n-lt10 t c =
-            laid_digit c.args.n (omega arith) c.lay_byte.ensures
+    laid_digit c.args.n (omega arith) c.lay_byte.ensures
 
 pub returns : goal.returns
 returns t c =
-                laid_digits c.args.n (omega arith) c.requires c.lay_decimal-next.ensures
+    laid_digits c.args.n (omega arith) c.requires c.lay_decimal-next.ensures
     c.lay_byte-2.ensures

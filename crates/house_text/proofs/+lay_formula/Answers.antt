@@ -1,5 +1,4 @@
 -- `lay_formula` lays a formula by its word, the halves by itself. The measure is the index: the halves have smaller ones. Assumes nothing.
-use borrow.Author.Rules.{rules}
 use Prim.Native.Nat.{◌≤◌}
 use native.Mathlib.Omega.{arith}
 use Rattle.theory.specs.Text.{bytes}
@@ -7,24 +6,23 @@ use Rattle.house_text.specs.Pieces.{form_piece}
 use Rattle.house_text.proofs.Laying.{laid_as, laid_then, laid_none, laid_no_more}
 use Rattle.house_text.proofs.FormulaPieces.{WordRead, no_formula, true_piece, false_piece, atom_piece, leaf_piece}
 use Rattle.house_text.proofs.FormulaPieces.{halves_below, halves_piece}
-use Prim.Native.Nat.{ℕ, ◌<◌}
 use Rattle.house_text.proofs.+lay_formula.Goals as goal
 
 pub returns-then-levels-eq0 : goal.returns-then-levels-eq0
 returns-then-levels-eq0 t c =
-        let args = c.args in
+    let args = c.args in
     laid_as (no_formula args.words.now args.levels args.i c.if-levels-eq0.true) (laid_none args.buf.now args.at)
 
 pub returns-then-buf-at : goal.returns-then-buf-at
 returns-then-buf-at t c =
-        let args = c.args in
+    let args = c.args in
     laid_no_more (form_piece args.words.now args.levels args.i) args.buf.now args.at c.if-buf-at.true
 
 pub returns-then-kind-eq-TRUE : goal.returns-then-kind-eq-TRUE
 unfolding bytes
 returns-then-kind-eq-TRUE t c =
-                        let read_here : WordRead c.args.words.now c.args.i c.kind-kind.result c.left-left.result =
-        record {
+    let read_here : WordRead c.args.words.now c.args.i c.kind-kind.result c.left-left.result =
+    record {
       words_good = c.requires.good;
       inside = c.requires.inside;
       kind = c.kind-kind.ensures;
@@ -35,8 +33,8 @@ returns-then-kind-eq-TRUE t c =
 pub returns-then-kind-eq-FALSE : goal.returns-then-kind-eq-FALSE
 unfolding bytes
 returns-then-kind-eq-FALSE t c =
-                        let read_here : WordRead c.args.words.now c.args.i c.kind-kind.result c.left-left.result =
-        record {
+    let read_here : WordRead c.args.words.now c.args.i c.kind-kind.result c.left-left.result =
+    record {
       words_good = c.requires.good;
       inside = c.requires.inside;
       kind = c.kind-kind.ensures;
@@ -50,8 +48,8 @@ lay_leaf-requires t c =
 
 pub returns-then-kind-eq-ATOM : goal.returns-then-kind-eq-ATOM
 returns-then-kind-eq-ATOM t c =
-                        let read_here : WordRead c.args.words.now c.args.i c.kind-kind.result c.left-left.result =
-        record {
+    let read_here : WordRead c.args.words.now c.args.i c.kind-kind.result c.left-left.result =
+    record {
       words_good = c.requires.good;
       inside = c.requires.inside;
       kind = c.kind-kind.ensures;
@@ -66,8 +64,8 @@ lay_leaf-requires-then-kind-gt-IMPL t c =
 
 pub returns-then-kind-gt-IMPL : goal.returns-then-kind-gt-IMPL
 returns-then-kind-gt-IMPL t c =
-                        let read_here : WordRead c.args.words.now c.args.i c.kind-kind.result c.left-left.result =
-        record {
+    let read_here : WordRead c.args.words.now c.args.i c.kind-kind.result c.left-left.result =
+    record {
       words_good = c.requires.good;
       inside = c.requires.inside;
       kind = c.kind-kind.ensures;
@@ -78,8 +76,8 @@ returns-then-kind-gt-IMPL t c =
 
 pub lay_formula-one-requires : goal.lay_formula-one-requires
 lay_formula-one-requires t c =
-                    let read_here : WordRead c.args.words.now c.args.i c.kind-kind.result c.left-left.result =
-        record {
+    let read_here : WordRead c.args.words.now c.args.i c.kind-kind.result c.left-left.result =
+    record {
       words_good = c.requires.good;
       inside = c.requires.inside;
       kind = c.kind-kind.ensures;
@@ -90,12 +88,12 @@ lay_formula-one-requires t c =
 
 pub overflow_sub-levels-2 : goal.overflow_sub-levels-2
 overflow_sub-levels-2 t c =
-                omega (arith, c.if-levels-eq0.false)
+    omega (arith, c.if-levels-eq0.false)
 
 pub lay_formula-two-requires : goal.lay_formula-two-requires
 lay_formula-two-requires t c =
-                                        let read_here : WordRead c.args.words.now c.args.i c.kind-kind.result c.left-left.result =
-        record {
+    let read_here : WordRead c.args.words.now c.args.i c.kind-kind.result c.left-left.result =
+    record {
       words_good = c.requires.good;
       inside = c.requires.inside;
       kind = c.kind-kind.ensures;
@@ -107,15 +105,16 @@ lay_formula-two-requires t c =
 
 pub shape_of-buf : goal.shape_of-buf
 shape_of-buf t c =
-                        (laid_then c.lay_opening-opened.ensures (laid_then c.lay_formula-one.ensures
+    (laid_then c.lay_opening-opened.ensures (laid_then c.lay_formula-one.ensures
     (laid_then c.lay-between.ensures
     (laid_then c.lay_formula-two.ensures c.lay-2.ensures)))).long
 
 pub returns : goal.returns
 unfolding bytes
 returns t c =
-                                                            let read_here : WordRead c.args.words.now c.args.i c.kind-kind.result c.left-left.result =
-        record {
+    let read_here : WordRead c.args.words.now c.args.i c.kind-kind.result
+    c.left-left.result =
+    record {
       words_good = c.requires.good;
       inside = c.requires.inside;
       kind = c.kind-kind.ensures;

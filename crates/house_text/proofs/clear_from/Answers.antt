@@ -1,9 +1,6 @@
 -- `clear_from` has zeroed the bytes from `from` up to `i`. The measure is what is left of the buffer. Assumes nothing.
-use borrow.Author.Rules.{rules}
-use Prim.Native.Nat.{◌-◌, ◌≤◌}
 use native.Mathlib.Omega.{arith}
-use lib.ListN.{length}
-use Rattle.theory.proofs.Cleared.{Clearing, clearing_starts, clearing_goes, clearing_ends}
+use Rattle.theory.proofs.Cleared.{clearing_starts, clearing_goes, clearing_ends}
 use Rattle.house_text.proofs.clear_from.Goals as goal
 
 pub loop-i-init : goal.loop-i-init

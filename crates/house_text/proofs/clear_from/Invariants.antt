@@ -1,9 +1,7 @@
 -- `clear_from` has zeroed the bytes from `from` up to `i`. The measure is what is left of the buffer. Assumes nothing.
-use borrow.Author.Rules.{rules}
 use Prim.Native.Nat.{◌-◌, ◌≤◌}
-use native.Mathlib.Omega.{arith}
 use lib.ListN.{length}
-use Rattle.theory.proofs.Cleared.{Clearing, clearing_starts, clearing_goes, clearing_ends}
+use Rattle.theory.proofs.Cleared.{Clearing}
 use Rattle.house_text.proofs.clear_from.Given as goal
 
 abbrev pub invariant-loop-i : goal.invariant-loop-i

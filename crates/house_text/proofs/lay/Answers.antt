@@ -1,10 +1,5 @@
 -- `lay` has laid the bytes before `i`. The measure is what is left of the text. Assumes nothing.
-use borrow.Author.Rules.{rules}
-use Prim.Native.Nat.{◌-◌, ◌≤◌}
-use mathlib.Core.Option.{some}
 use native.Mathlib.Omega.{arith}
-use lib.ListN.{length, take}
-use Rattle.house_text.specs.Laid.{Laid}
 use Rattle.house_text.proofs.Laying.{laid_nothing, laid_next, laid_whole}
 use Rattle.house_text.proofs.lay.Goals as goal
 
@@ -18,7 +13,7 @@ loop-i-smaller c =
 
 pub loop-i-preserved : goal.loop-i-preserved
 loop-i-preserved c =
-                let turn = c.loop-i in
+    let turn = c.loop-i in
     (omega arith, laid_next c.args.text.now turn.i turn.invariant.1 (omega arith) c.lay_byte-next.ensures)
 
 pub shape_of-buf : goal.shape_of-buf
@@ -27,4 +22,4 @@ shape_of-buf c =
 
 pub returns : goal.returns
 returns c =
-            laid_whole c.args.text.now c.loop-i.i c.loop-i.invariant.1 (omega arith)
+    laid_whole c.args.text.now c.loop-i.i c.loop-i.invariant.1 (omega arith)

@@ -1,11 +1,8 @@
 -- `lay` has laid the bytes before `i`. The measure is what is left of the text. Assumes nothing.
-use borrow.Author.Rules.{rules}
 use Prim.Native.Nat.{◌-◌, ◌≤◌}
 use mathlib.Core.Option.{some}
-use native.Mathlib.Omega.{arith}
 use lib.ListN.{length, take}
 use Rattle.house_text.specs.Laid.{Laid}
-use Rattle.house_text.proofs.Laying.{laid_nothing, laid_next, laid_whole}
 use Rattle.house_text.proofs.lay.Given as goal
 
 abbrev pub invariant-loop-i : goal.invariant-loop-i

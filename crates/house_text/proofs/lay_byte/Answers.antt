@@ -1,6 +1,5 @@
 -- `lay_byte` lays the byte where it has room. Assumes nothing.
 use Rattle.house_text.proofs.Laying.{laid_byte, laid_no_byte}
-use borrow.Author.Rules.{rules}
 use Rattle.house_text.proofs.lay_byte.Goals as goal
 
 pub returns-then-at-buf : goal.returns-then-at-buf

@@ -1,13 +1,9 @@
 -- `lay_generated` has laid the letters before `j`. The measure is the number of letters to come. Assumes nothing.
-use borrow.Author.Rules.{rules}
-use Prim.Native.Nat.{◌-◌, ◌≤◌}
 use mathlib.Core.Path.{ap}
 use mathlib.Core.Option.{some}
 use mathlib.Core.List.{[], ◌∷◌}
 use native.Mathlib.Omega.{arith}
-use lib.ListN.{take}
 use Rattle.theory.specs.Names.{spell}
-use Rattle.house_text.specs.Laid.{Laid}
 use Rattle.house_text.proofs.Laying.{laid_nothing, laid_as, laid_next, laid_whole}
 use Rattle.house_text.proofs.lay_generated.Goals as goal
 
@@ -25,7 +21,7 @@ loop-j-smaller c =
 
 pub loop-j-preserved : goal.loop-j-preserved
 loop-j-preserved c =
-                        let byte = laid_as (ap (λ b. some (b ∷ [])) c.letter.ensures) c.lay_byte-next.ensures in (
+    let byte = laid_as (ap (λ b. some (b ∷ [])) c.letter.ensures) c.lay_byte-next.ensures in (
       omega arith,
       laid_next (spell c.args.g) c.loop-j.j c.loop-j.invariant.1
           (omega (arith, c.letter_count-count.ensures)) byte,
@@ -37,5 +33,5 @@ shape_of-buf c =
 
 pub returns : goal.returns
 returns c =
-                laid_whole (spell c.args.g) c.loop-j.j c.loop-j.invariant.1
+    laid_whole (spell c.args.g) c.loop-j.j c.loop-j.invariant.1
     (omega (arith, c.letter_count-count.ensures))

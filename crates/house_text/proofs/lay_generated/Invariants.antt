@@ -1,14 +1,9 @@
 -- `lay_generated` has laid the letters before `j`. The measure is the number of letters to come. Assumes nothing.
-use borrow.Author.Rules.{rules}
 use Prim.Native.Nat.{◌-◌, ◌≤◌}
-use mathlib.Core.Path.{ap}
 use mathlib.Core.Option.{some}
-use mathlib.Core.List.{[], ◌∷◌}
-use native.Mathlib.Omega.{arith}
 use lib.ListN.{take}
 use Rattle.theory.specs.Names.{spell}
 use Rattle.house_text.specs.Laid.{Laid}
-use Rattle.house_text.proofs.Laying.{laid_nothing, laid_as, laid_next, laid_whole}
 use Rattle.house_text.proofs.lay_generated.Given as goal
 
 abbrev pub invariant-loop-j : goal.invariant-loop-j

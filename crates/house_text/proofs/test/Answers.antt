@@ -7,13 +7,12 @@ use Rattle.refusal.specs.Answers.{place_of}
 use Rattle.refusal.specs.Table.{refused_by}
 use Rattle.house_text.specs.Drafted.{draft}
 use Rattle.house_text.proofs.Testing.{in_order_lem, nodes_fit}
-use borrow.Author.Rules.{rules}
 use Rattle.house_text.proofs.test.Goals as goal
 
 pub returns-in-At : goal.returns-in-At
 unfolding fault_at or_else unless refused_by place_of
 returns-in-At c =
-                        let args = c.args in
+    let args = c.args in
     let x = draft args.words.now args.count args.assumptions args.names.now args.terms.now args.nodes args.root
     [] in
     in_order_lem x (sym c.if-right_sizes.true ∙ c.right_sizes.ensures)
@@ -25,7 +24,7 @@ returns-in-At c =
 pub returns-in-At-too_many : goal.returns-in-At-too_many
 unfolding fault_at or_else unless refused_by place_of
 returns-in-At-too_many c =
-                                let args = c.args in
+    let args = c.args in
     let x = draft args.words.now args.count args.assumptions args.names.now args.terms.now args.nodes args.root
     [] in
     in_order_lem x (sym c.if-right_sizes.true ∙ c.right_sizes.ensures)
@@ -37,7 +36,7 @@ returns-in-At-too_many c =
 pub returns-in-At-bad_name : goal.returns-in-At-bad_name
 unfolding fault_at or_else unless refused_by place_of
 returns-in-At-bad_name c =
-                                        let args = c.args in
+    let args = c.args in
     let x = draft args.words.now args.count args.assumptions args.names.now args.terms.now args.nodes args.root
     [] in
     in_order_lem x (sym c.if-right_sizes.true ∙ c.right_sizes.ensures)
@@ -48,14 +47,14 @@ returns-in-At-bad_name c =
 
 pub bad_term-requires : goal.bad_term-requires
 bad_term-requires c =
-                let args = c.args in
+    let args = c.args in
     nodes_fit (length args.words.now) args.count (length args.terms.now) args.nodes
     (sym c.right_sizes.ensures ∙ c.if-right_sizes.true)
 
 pub returns-in-At-bad_term : goal.returns-in-At-bad_term
 unfolding fault_at or_else unless refused_by place_of
 returns-in-At-bad_term c =
-                                                let args = c.args in
+    let args = c.args in
     let x = draft args.words.now args.count args.assumptions args.names.now args.terms.now args.nodes args.root
     [] in
     in_order_lem x (sym c.if-right_sizes.true ∙ c.right_sizes.ensures)
@@ -67,7 +66,7 @@ returns-in-At-bad_term c =
 pub returns-then-right_sizes : goal.returns-then-right_sizes
 unfolding fault_at or_else unless refused_by place_of
 returns-then-right_sizes c =
-                                            let args = c.args in
+    let args = c.args in
     let x = draft args.words.now args.count args.assumptions args.names.now args.terms.now args.nodes args.root
     [] in
     in_order_lem x (sym c.if-right_sizes.true ∙ c.right_sizes.ensures)
@@ -79,7 +78,7 @@ returns-then-right_sizes c =
 pub returns : goal.returns
 unfolding fault_at or_else unless refused_by
 returns c =
-            let args = c.args in
+    let args = c.args in
     let x = draft args.words.now args.count args.assumptions args.names.now args.terms.now args.nodes args.root
     [] in
     in_order_lem x (sym c.if-right_sizes.false ∙ c.right_sizes.ensures) refl refl refl refl

@@ -5,14 +5,13 @@ use native.Mathlib.Omega.{arith}
 use Prim.Native.Nat.{◌*◌}
 use lib.Seq.{length-take-le}
 use Rattle.theory.specs.Layout.{node_width}
-use Rattle.theory.specs.Writer.{Draft, writer_refusal, written}
+use Rattle.theory.specs.Writer.{writer_refusal, written}
 use Rattle.identifier_generator.specs.Handed.{Hands}
 use Rattle.refusal.specs.Table.{refused_by, place_in}
 use Rattle.refusal.proofs.Table.{none_refused}
 use Rattle.house_text.specs.Drafted.{draft}
 use Rattle.house_text.proofs.Drafts.{refused_hands, words_there, numbers_there, parts_given, root_there}
 use Rattle.house_text.proofs.Drafts.{passed_hands, passed_place}
-use borrow.Author.Rules.{rules}
 use Rattle.house_text.proofs.write_text.Goals as goal
 use Rattle.house_text.proofs.write_text.Goals.{Then-refused-eq0}
 
@@ -21,35 +20,66 @@ nothing : (c : Then-refused-eq0) → refused_by c.test-tested.result ≡ none
 nothing c = none_refused (refused_by c.test-tested.result)
     (sym c.number_of-refused.ensures ∙ c.if-refused-eq0.true)
 
-passed : (c : Then-refused-eq0) → writer_refusal (draft c.args.words.now c.args.count c.args.assumptions c.args.names.now c.args.terms.now c.args.nodes c.args.root c.args.buf.now) ≡ none
+passed : (c : Then-refused-eq0) → writer_refusal
+    (draft c.args.words.now c.args.count c.args.assumptions c.args.names.now c.args.terms.now c.args.nodes c.args.root
+    c.args.buf.now) ≡ none
 unfolding writer_refusal
 passed c = sym c.test-tested.ensures ∙ nothing c
 
 pub overflow_mul-numbers : goal.overflow_mul-numbers
 overflow_mul-numbers c =
-        omega (arith, numbers_there (draft c.args.words.now c.args.count c.args.assumptions c.args.names.now c.args.terms.now c.args.nodes c.args.root c.args.buf.now) (passed c), c.type_inv)
+    omega (
+      arith,
+      numbers_there
+          (draft c.args.words.now c.args.count c.args.assumptions c.args.names.now c.args.terms.now c.args.nodes c.args.root
+          c.args.buf.now) (passed c),
+      c.type_inv,
+    )
 
 pub slice_bounds-write_term-end : goal.slice_bounds-write_term-end
 slice_bounds-write_term-end c =
-            sym (length-take-le c.args.count c.args.words.now (words_there (draft c.args.words.now c.args.count c.args.assumptions c.args.names.now c.args.terms.now c.args.nodes c.args.root c.args.buf.now) (passed (goal.at.slice_bounds-write_term-end c).Then-refused-eq0)))
+    sym (length-take-le c.args.count c.args.words.now
+    (words_there (draft c.args.words.now c.args.count c.args.assumptions c.args.names.now c.args.terms.now c.args.nodes
+    c.args.root c.args.buf.now) (passed (goal.at.slice_bounds-write_term-end c).Then-refused-eq0)))
 
 pub slice_bounds-write_term-end-then-refused-eq0 : goal.slice_bounds-write_term-end-then-refused-eq0
 slice_bounds-write_term-end-then-refused-eq0 c =
-            let args = c.args in
-    sym (length-take-le (args.nodes * node_width) args.terms.now (numbers_there (draft c.args.words.now c.args.count c.args.assumptions c.args.names.now c.args.terms.now c.args.nodes c.args.root c.args.buf.now) (passed (goal.at.slice_bounds-write_term-end-then-refused-eq0 c).Then-refused-eq0)))
+    let args = c.args in
+    sym (length-take-le (args.nodes * node_width) args.terms.now
+    (numbers_there (draft c.args.words.now c.args.count c.args.assumptions c.args.names.now c.args.terms.now c.args.nodes
+    c.args.root c.args.buf.now) (passed (goal.at.slice_bounds-write_term-end-then-refused-eq0 c).Then-refused-eq0)))
 
 pub write_term-requires : goal.write_term-requires
 write_term-requires c =
-    record { given = parts_given (draft c.args.words.now c.args.count c.args.assumptions c.args.names.now c.args.terms.now c.args.nodes c.args.root c.args.buf.now) (passed (goal.at.write_term-requires c).Then-refused-eq0); root = root_there (draft c.args.words.now c.args.count c.args.assumptions c.args.names.now c.args.terms.now c.args.nodes c.args.root c.args.buf.now) (passed (goal.at.write_term-requires c).Then-refused-eq0) }
+    record {
+      given = parts_given (draft c.args.words.now c.args.count c.args.assumptions c.args.names.now c.args.terms.now c.args.nodes
+          c.args.root c.args.buf.now) (passed (goal.at.write_term-requires c).Then-refused-eq0);
+      root = root_there (draft c.args.words.now c.args.count c.args.assumptions c.args.names.now c.args.terms.now c.args.nodes
+          c.args.root c.args.buf.now) (passed (goal.at.write_term-requires c).Then-refused-eq0);
+    }
 
 pub returns-then-refused-eq0 : goal.returns-then-refused-eq0
 unfolding place_in
 returns-then-refused-eq0 c =
-    record { written = passed_hands (draft c.args.words.now c.args.count c.args.assumptions c.args.names.now c.args.terms.now c.args.nodes c.args.root c.args.buf.now) (passed (goal.at.returns-then-refused-eq0 c).Then-refused-eq0) c.write_term.ensures; place = c.place_of.ensures ∙ ap place_in (nothing (goal.at.returns-then-refused-eq0 c).Then-refused-eq0) ∙ passed_place (draft c.args.words.now c.args.count c.args.assumptions c.args.names.now c.args.terms.now c.args.nodes c.args.root c.args.buf.now) (passed (goal.at.returns-then-refused-eq0 c).Then-refused-eq0) }
+    record {
+      written = passed_hands
+          (draft c.args.words.now c.args.count c.args.assumptions c.args.names.now c.args.terms.now c.args.nodes c.args.root
+          c.args.buf.now) (passed (goal.at.returns-then-refused-eq0 c).Then-refused-eq0) c.write_term.ensures;
+      place = c.place_of.ensures ∙ ap place_in (nothing (goal.at.returns-then-refused-eq0 c).Then-refused-eq0) ∙ passed_place
+          (draft c.args.words.now c.args.count c.args.assumptions c.args.names.now c.args.terms.now c.args.nodes c.args.root
+          c.args.buf.now) (passed (goal.at.returns-then-refused-eq0 c).Then-refused-eq0);
+    }
 
 pub returns : goal.returns
 unfolding writer_refusal
 returns c =
-                    let number = c.number_of-refused.ensures in
-    let hands = refused_hands (draft c.args.words.now c.args.count c.args.assumptions c.args.names.now c.args.terms.now c.args.nodes c.args.root c.args.buf.now) (refused_by c.test-tested.result) c.test-tested.ensures
-    (λ e. c.if-refused-eq0.false (number ∙ e)) in record { written = subst (λ n. Hands (written (draft c.args.words.now c.args.count c.args.assumptions c.args.names.now c.args.terms.now c.args.nodes c.args.root c.args.buf.now)) 0 n c.args.buf.now) (sym number) hands.0; place = c.place_of.ensures ∙ hands.1 }
+    let number = c.number_of-refused.ensures in
+    let hands = refused_hands
+    (draft c.args.words.now c.args.count c.args.assumptions c.args.names.now c.args.terms.now c.args.nodes c.args.root
+    c.args.buf.now) (refused_by c.test-tested.result) c.test-tested.ensures
+    (λ e. c.if-refused-eq0.false (number ∙ e)) in record {
+      written = subst (λ n. Hands
+          (written (draft c.args.words.now c.args.count c.args.assumptions c.args.names.now c.args.terms.now c.args.nodes
+          c.args.root c.args.buf.now)) 0 n c.args.buf.now) (sym number) hands.0;
+      place = c.place_of.ensures ∙ hands.1;
+    }

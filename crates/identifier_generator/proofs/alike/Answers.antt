@@ -1,10 +1,7 @@
 -- `alike` has found the bytes before `i` to be the same. The measure is what is left of the second name. Assumes nothing.
-use borrow.Author.Rules.{rules}
 use borrow.Author.Count.{below_more}
-use Prim.Native.Nat.{ℕ, ◌≤◌, ◌<◌, ◌-◌}
-use mathlib.Core.Path.{◌≡◌, sym}
+use mathlib.Core.Path.{sym}
 use native.Mathlib.Omega.{arith}
-use lib.ListN.{length, get_or}
 use Rattle.theory.proofs.Spelling.{same_by_bytes, differ_at, differ_length}
 use Rattle.identifier_generator.proofs.alike.Goals as goal
 
@@ -18,7 +15,7 @@ loop-i-init c =
 
 pub returns-then-a-i : goal.returns-then-a-i
 returns-then-a-i c =
-        sym (differ_at c.args.a.now c.args.b.now c.loop-i.i c.if-a-i.true)
+    sym (differ_at c.args.a.now c.args.b.now c.loop-i.i c.if-a-i.true)
 
 pub loop-i-preserved : goal.loop-i-preserved
 loop-i-preserved c =
@@ -26,4 +23,4 @@ loop-i-preserved c =
 
 pub returns : goal.returns
 returns c =
-        sym (same_by_bytes c.args.a.now c.args.b.now (omega arith) (λ k l. c.loop-i.invariant.1 k (omega arith)))
+    sym (same_by_bytes c.args.a.now c.args.b.now (omega arith) (λ k l. c.loop-i.invariant.1 k (omega arith)))

@@ -1,11 +1,7 @@
 -- `alike` has found the bytes before `i` to be the same. The measure is what is left of the second name. Assumes nothing.
-use borrow.Author.Rules.{rules}
-use borrow.Author.Count.{below_more}
 use Prim.Native.Nat.{ℕ, ◌≤◌, ◌<◌, ◌-◌}
-use mathlib.Core.Path.{◌≡◌, sym}
-use native.Mathlib.Omega.{arith}
+use mathlib.Core.Path.{◌≡◌}
 use lib.ListN.{length, get_or}
-use Rattle.theory.proofs.Spelling.{same_by_bytes, differ_at, differ_length}
 use Rattle.identifier_generator.proofs.alike.Given as goal
 
 abbrev pub invariant-loop-i : goal.invariant-loop-i

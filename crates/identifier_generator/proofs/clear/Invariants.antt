@@ -1,10 +1,7 @@
 -- `clear` has zeroed the bytes before `j`. The measure is what is left of the buffer. Assumes nothing.
-use borrow.Author.Rules.{rules}
-use Prim.Native.Nat.{ℕ, ◌-◌, ◌≤◌}
-use mathlib.Core.Path.{◌≡◌, ap, ◌∙◌}
-use native.Mathlib.Omega.{arith}
-use lib.ListN.{length, replicate}
-use Rattle.theory.proofs.Cleared.{Clearing, clearing_starts, clearing_goes, clearing_ends}
+use Prim.Native.Nat.{◌-◌, ◌≤◌}
+use lib.ListN.{length}
+use Rattle.theory.proofs.Cleared.{Clearing}
 use Rattle.identifier_generator.proofs.clear.Given as goal
 
 abbrev pub invariant-loop-j : goal.invariant-loop-j

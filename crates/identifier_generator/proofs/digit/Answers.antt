@@ -1,5 +1,5 @@
 -- `digit` keeps the power of the digits it has passed. The measure is the digits still to pass. Assumes nothing.
-use Prim.Native.Nat.{ℕ, ◌≤◌, ◌-◌, ◌/◌, ◌%◌, ◌^◌}
+use Prim.Native.Nat.{ℕ, ◌/◌, ◌%◌, ◌^◌}
 use mathlib.Core.Path.{◌≡◌, refl, ap, ◌∙◌}
 use native.Mathlib.Omega.{arith}
 use Rattle.identifier_generator.proofs.Powers.{power_next, power_positive, passed}

@@ -1,8 +1,6 @@
 -- `digit` keeps the power of the digits it has passed. The measure is the digits still to pass. Assumes nothing.
-use Prim.Native.Nat.{ℕ, ◌≤◌, ◌-◌, ◌/◌, ◌%◌, ◌^◌}
-use mathlib.Core.Path.{◌≡◌, refl, ap, ◌∙◌}
-use native.Mathlib.Omega.{arith}
-use Rattle.identifier_generator.proofs.Powers.{power_next, power_positive, passed}
+use Prim.Native.Nat.{◌≤◌, ◌-◌, ◌^◌}
+use mathlib.Core.Path.{◌≡◌}
 use Rattle.identifier_generator.proofs.digit.Given as goal
 
 abbrev pub invariant-loop-n : goal.invariant-loop-n

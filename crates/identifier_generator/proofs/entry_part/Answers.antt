@@ -1,5 +1,4 @@
 -- `entry_part` lends the part that `find_entry` finds. Assumes nothing.
-use borrow.Author.Rules.{rules}
 use mathlib.Core.Path.{◌≡◌, sym, ap, ◌∙◌}
 use lib.ListN.{get_or}
 use mathlib.Core.List.{[]}

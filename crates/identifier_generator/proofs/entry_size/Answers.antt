@@ -1,5 +1,4 @@
 -- `entry_size` reads the length byte and sees whether its bytes are there. Assumes nothing.
-use borrow.Author.Rules.{rules}
 use native.Mathlib.Omega.{arith}
 use Rattle.identifier_generator.proofs.Sizes.{size_empty, size_fits, size_cut}
 use Rattle.identifier_generator.proofs.entry_size.Goals as goal
@@ -18,8 +17,8 @@ overflow_add-size c =
 
 pub returns-then-text-size : goal.returns-then-text-size
 returns-then-text-size c =
-        size_cut c.args.text.now c.if-text-eq0.false c.if-text-size.true
+    size_cut c.args.text.now c.if-text-eq0.false c.if-text-size.true
 
 pub returns : goal.returns
 returns c =
-        size_fits c.args.text.now c.if-text-eq0.false c.if-text-size.false
+    size_fits c.args.text.now c.if-text-eq0.false c.if-text-size.false

@@ -1,5 +1,4 @@
 -- `find_entry` has passed the entries before the one looked for. The measure is what is left of the text. Assumes nothing.
-use borrow.Author.Rules.{rules}
 use Prim.Native.Nat.{ℕ, ◌+◌, ◌-◌, ◌≤◌}
 use mathlib.Core.Path.{◌≡◌, refl, sym, ap, ◌∙◌}
 use native.Mathlib.Omega.{arith}
@@ -15,7 +14,7 @@ ends : (c : Else-size-eq0) →
     c.loop-k.at + c.entry_size-size.result ≤
     length c.args.text.now
 ends c =
-        let sized = c.entry_size-size in
+    let sized = c.entry_size-size in
     end_inside c.args.text.now c.loop-k.at sized.result sized.ensures c.loop-k.invariant.0
 
 pub loop-k-init : goal.loop-k-init
@@ -36,7 +35,7 @@ slice_bounds-entry_size-end c =
 
 pub returns-then-size-eq0 : goal.returns-then-size-eq0
 returns-then-size-eq0 c =
-        let args = c.args in
+    let args = c.args in
     let none : 0 ≡ entry_size (take (length args.text.now - c.loop-k.at) (drop c.loop-k.at args.text.now)) =
     sym c.if-size-eq0.true ∙ c.entry_size-size.ensures in
     sym (c.loop-k.invariant.1
@@ -52,7 +51,7 @@ overflow_add-end c =
 
 pub returns-then-left-eq0 : goal.returns-then-left-eq0
 returns-then-left-eq0 c =
-        let sized = c.entry_size-size in
+    let sized = c.entry_size-size in
     sym (c.loop-k.invariant.1
     ∙ ap (λ (k : ℕ). entry_from c.loop-k.at k (drop c.loop-k.at c.args.text.now)) c.if-left-eq0.true
     ∙ held_at c.args.text.now c.loop-k.at sized.result sized.ensures c.if-size-eq0.false)
@@ -63,7 +62,7 @@ loop-k-smaller c =
 
 pub loop-k-preserved : goal.loop-k-preserved
 loop-k-preserved c =
-        let sized = c.entry_size-size in (
+    let sized = c.entry_size-size in (
       ends (goal.at.loop-k-preserved c).Else-size-eq0,
       c.loop-k.invariant.1
           ∙ later_at c.args.text.now c.loop-k.at sized.result sized.ensures c.if-size-eq0.false

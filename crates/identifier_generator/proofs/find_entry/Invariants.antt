@@ -1,12 +1,8 @@
 -- `find_entry` has passed the entries before the one looked for. The measure is what is left of the text. Assumes nothing.
-use borrow.Author.Rules.{rules}
-use Prim.Native.Nat.{ℕ, ◌+◌, ◌-◌, ◌≤◌}
-use mathlib.Core.Path.{◌≡◌, refl, sym, ap, ◌∙◌}
-use native.Mathlib.Omega.{arith}
-use lib.ListN.{length, take, drop}
-use Rattle.identifier_generator.specs.Entry.{entry_size, entry_from}
-use Rattle.identifier_generator.proofs.Cursor.{none_at, end_inside}
-use Rattle.identifier_generator.proofs.EntryPlaces.{missing_at, held_at, later_at}
+use Prim.Native.Nat.{◌-◌, ◌≤◌}
+use mathlib.Core.Path.{◌≡◌}
+use lib.ListN.{length, drop}
+use Rattle.identifier_generator.specs.Entry.{entry_from}
 use Rattle.identifier_generator.proofs.find_entry.Given as goal
 
 abbrev pub invariant-loop-k : goal.invariant-loop-k

@@ -1,6 +1,5 @@
 -- `fresh` has passed only indices that are taken. The measure is the way to the fresh index. Assumes nothing.
-use borrow.Author.Rules.{rules}
-use Prim.Native.Nat.{◌≤◌, ◌<◌, ◌-◌}
+use Prim.Native.Nat.{◌<◌}
 use mathlib.Core.Path.{sym, ◌∙◌}
 use native.Mathlib.Omega.{arith}
 use Rattle.theory.specs.Names.{skipped, fresh}
@@ -39,5 +38,5 @@ loop-next-preserved c =
 
 pub returns : goal.returns
 returns c =
-        free_is_fresh (skipped (names_in c.args.text.now)) c.args.i c.loop-next.next
+    free_is_fresh (skipped (names_in c.args.text.now)) c.args.i c.loop-next.next
     c.loop-next.invariant.0 c.loop-next.invariant.1 (sym c.spelled_like.ensures ∙ c.loop-next-test.false)

@@ -1,13 +1,7 @@
 -- `fresh` has passed only indices that are taken. The measure is the way to the fresh index. Assumes nothing.
-use borrow.Author.Rules.{rules}
-use Prim.Native.Nat.{◌≤◌, ◌<◌, ◌-◌}
-use mathlib.Core.Path.{sym, ◌∙◌}
-use native.Mathlib.Omega.{arith}
+use Prim.Native.Nat.{◌≤◌, ◌-◌}
 use Rattle.theory.specs.Names.{skipped, fresh}
 use Rattle.theory.specs.NameText.{names_in}
-use Rattle.theory.proofs.Derive.{fresh_above}
-use Rattle.theory.proofs.Entries.{skipped_few}
-use Rattle.theory.proofs.FirstFree.{fresh_bound, taken_below, free_is_fresh}
 use Rattle.identifier_generator.proofs.fresh.Given as goal
 
 abbrev pub invariant-loop-next : goal.invariant-loop-next

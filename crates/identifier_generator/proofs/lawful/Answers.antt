@@ -1,5 +1,4 @@
 -- `lawful` looks for the name among the earlier ones, then at its spelling. Assumes nothing.
-use borrow.Author.Rules.{rules}
 use mathlib.Core.Path.{sym, ◌∙◌}
 use Rattle.theory.specs.NameText.{names_in}
 use Rattle.identifier_generator.proofs.Faults.{repeated, unrepeated}

@@ -1,5 +1,4 @@
 -- `letter` is the digit that stands so far from the end. Assumes nothing.
-use borrow.Author.Rules.{rules}
 use Prim.Native.Nat.{ℕ, suc, ◌+◌, ◌-◌, ◌/◌}
 use mathlib.Core.Path.{◌≡◌, sym, ap, ◌∙◌}
 use native.Mathlib.Omega.{arith}
@@ -14,7 +13,7 @@ returns-then-count-j c =
 
 pub returns : goal.returns
 returns c =
-        let place : c.args.j + suc (c.letter_count-count.result - 1 - c.args.j) ≡ c.args.i / 26 + 1 =
+    let place : c.args.j + suc (c.letter_count-count.result - 1 - c.args.j) ≡ c.args.i / 26 + 1 =
     omega (arith, spell_length c.args.i) in
     ap (λ (d : ℕ). 97 + d) c.digit.ensures
     ∙ sym (spell_letter c.args.i c.args.j (c.letter_count-count.result - 1 - c.args.j) place)

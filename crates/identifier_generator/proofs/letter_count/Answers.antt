@@ -1,5 +1,4 @@
 -- `letter_count` is the length of the spelling. Assumes nothing.
-use borrow.Author.Rules.{rules}
 use mathlib.Core.Path.{sym}
 use Rattle.theory.proofs.Spelling.{spell_length}
 use Rattle.identifier_generator.proofs.letter_count.Goals as goal

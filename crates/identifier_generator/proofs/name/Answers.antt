@@ -1,5 +1,4 @@
 -- `name` looks a number up in the text that holds it. Assumes nothing.
-use borrow.Author.Rules.{rules}
 use native.Mathlib.Omega.{arith}
 use Rattle.identifier_generator.proofs.EntryPlaces.{name_assumed, name_generated}
 use Rattle.identifier_generator.proofs.name.Goals as goal

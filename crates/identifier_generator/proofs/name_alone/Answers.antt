@@ -1,5 +1,4 @@
 -- `name_alone` hands the written front back. Assumes nothing.
-use borrow.Author.Rules.{rules}
 use mathlib.Core.Path.{refl}
 use lib.ListN.{length}
 use Rattle.theory.proofs.Fitted.{alone_front}

@@ -1,5 +1,4 @@
 -- `name_byte` tests one range after the other. Assumes nothing.
-use borrow.Author.Rules.{rules}
 use mathlib.Core.Path.{sym}
 use Rattle.theory.specs.NameText.{name_byte}
 use Rattle.identifier_generator.proofs.name_byte.Goals as goal

@@ -1,13 +1,9 @@
 -- `spell_into` has written the letters before `j`. The measure is what is left of the buffer. Assumes nothing.
-use borrow.Author.Rules.{rules}
 use Prim.Native.Nat.{◌-◌}
-use mathlib.Core.Path.{sym, ◌∙◌}
-use native.Mathlib.Omega.{arith}
 use lib.ListN.{length}
 use Rattle.theory.specs.Names.{spell}
 use Rattle.theory.specs.NameText.{padded}
-use Rattle.identifier_generator.proofs.Filling.{Filled, none_filled, byte_filled, all_filled}
-use Rattle.theory.proofs.Fitted.{padded_byte, padded_length}
+use Rattle.identifier_generator.proofs.Filling.{Filled}
 use Rattle.identifier_generator.proofs.spell_into.Given as goal
 
 abbrev pub invariant-loop-j : goal.invariant-loop-j

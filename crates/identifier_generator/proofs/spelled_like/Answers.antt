@@ -1,9 +1,7 @@
 -- `spelled_like` has found no name that it passed to be spelled so. The measure is the length of the rest. Assumes nothing.
-use borrow.Author.Rules.{rules}
 use mathlib.Core.Path.{◌≡◌, refl, sym, ◌∙◌}
 use native.Mathlib.Omega.{arith}
 use mathlib.Core.Bool.{true}
-use lib.ListN.{length}
 use Rattle.theory.specs.Names.{spell, among}
 use Rattle.theory.specs.NameText.{names_in}
 use Rattle.theory.proofs.Entries.{skipped_free, skipped_found}
@@ -18,7 +16,7 @@ loop-rest-init c =
 
 pub returns-then-size-eq0 : goal.returns-then-size-eq0
 returns-then-size-eq0 c =
-        let args = c.args in
+    let args = c.args in
     let none : 0 ≡ entry_size c.loop-rest.rest.now = sym c.if-size-eq0.true ∙ c.entry_size-size.ensures in
     sym (skipped_free (spell args.i) (names_in args.text.now)
     (c.loop-rest.invariant ∙ nowhere (spell args.i) c.loop-rest.rest.now none))
@@ -33,7 +31,7 @@ slice_bounds-spells-end c =
 
 pub returns-then-spells : goal.returns-then-spells
 returns-then-spells c =
-        let args = c.args in
+    let args = c.args in
     let sized = c.entry_size-size in
     let found : among (spell args.i) (names_in c.loop-rest.rest.now) ≡ true =
     here (spell args.i) c.loop-rest.rest.now sized.result sized.ensures c.if-size-eq0.false
@@ -54,12 +52,12 @@ slice_bounds-rest-end c =
 
 pub loop-rest-smaller : goal.loop-rest-smaller
 loop-rest-smaller c =
-        let sized = c.entry_size-size in
+    let sized = c.entry_size-size in
     rest_shorter c.loop-rest.rest.now sized.result sized.ensures c.if-size-eq0.false
 
 pub loop-rest-preserved : goal.loop-rest-preserved
 loop-rest-preserved c =
-        let sized = c.entry_size-size in
+    let sized = c.entry_size-size in
     c.loop-rest.invariant
     ∙ in_the_rest (spell c.args.i) c.loop-rest.rest.now sized.result sized.ensures
     c.if-size-eq0.false (sym c.if-spells.false ∙ c.spells.ensures)

@@ -1,12 +1,8 @@
 -- `spells` has found every byte before `j` to be the letter there. The measure is what is left of the name. Assumes nothing.
-use borrow.Author.Rules.{rules}
-use borrow.Author.Count.{below_more}
 use Prim.Native.Nat.{ℕ, ◌≤◌, ◌<◌, ◌-◌}
-use mathlib.Core.Path.{◌≡◌, sym, ◌∙◌}
-use native.Mathlib.Omega.{arith}
+use mathlib.Core.Path.{◌≡◌}
 use lib.ListN.{length, get_or}
 use Rattle.theory.specs.Names.{spell}
-use Rattle.theory.proofs.Spelling.{same_by_bytes, differ_at, differ_length}
 use Rattle.identifier_generator.proofs.spells.Given as goal
 
 abbrev pub invariant-loop-j : goal.invariant-loop-j

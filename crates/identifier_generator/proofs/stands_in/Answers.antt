@@ -1,10 +1,6 @@
 -- `stands_in` has found no name that it passed to be the one looked for. The measure is the length of the rest. Assumes nothing.
-use borrow.Author.Rules.{rules}
 use mathlib.Core.Path.{◌≡◌, refl, sym, ◌∙◌}
 use native.Mathlib.Omega.{arith}
-use lib.ListN.{length}
-use Rattle.theory.specs.Names.{among}
-use Rattle.theory.specs.NameText.{names_in}
 use Rattle.identifier_generator.specs.Entry.{entry_size}
 use Rattle.identifier_generator.proofs.Sizes.{size_within, rest_shorter}
 use Rattle.identifier_generator.proofs.Passing.{nowhere, here, in_the_rest}
@@ -16,7 +12,7 @@ loop-rest-init c =
 
 pub returns-then-size-eq0 : goal.returns-then-size-eq0
 returns-then-size-eq0 c =
-        let args = c.args in
+    let args = c.args in
     let none : 0 ≡ entry_size c.loop-rest.rest.now = sym c.if-size-eq0.true ∙ c.entry_size-size.ensures in
     sym (c.loop-rest.invariant ∙ nowhere args.name.now c.loop-rest.rest.now none)
 
@@ -30,7 +26,7 @@ slice_bounds-alike-end c =
 
 pub returns-then-alike : goal.returns-then-alike
 returns-then-alike c =
-        let sized = c.entry_size-size in
+    let sized = c.entry_size-size in
     sym (c.loop-rest.invariant ∙ here c.args.name.now c.loop-rest.rest.now sized.result sized.ensures
     c.if-size-eq0.false (sym c.if-alike.true ∙ c.alike.ensures))
 
@@ -48,12 +44,12 @@ slice_bounds-rest-end c =
 
 pub loop-rest-smaller : goal.loop-rest-smaller
 loop-rest-smaller c =
-        let sized = c.entry_size-size in
+    let sized = c.entry_size-size in
     rest_shorter c.loop-rest.rest.now sized.result sized.ensures c.if-size-eq0.false
 
 pub loop-rest-preserved : goal.loop-rest-preserved
 loop-rest-preserved c =
-        let sized = c.entry_size-size in
+    let sized = c.entry_size-size in
     c.loop-rest.invariant
     ∙ in_the_rest c.args.name.now c.loop-rest.rest.now sized.result sized.ensures
     c.if-size-eq0.false (sym c.if-alike.false ∙ c.alike.ensures)

@@ -1,13 +1,8 @@
 -- `stands_in` has found no name that it passed to be the one looked for. The measure is the length of the rest. Assumes nothing.
-use borrow.Author.Rules.{rules}
-use mathlib.Core.Path.{◌≡◌, refl, sym, ◌∙◌}
-use native.Mathlib.Omega.{arith}
+use mathlib.Core.Path.{◌≡◌}
 use lib.ListN.{length}
 use Rattle.theory.specs.Names.{among}
 use Rattle.theory.specs.NameText.{names_in}
-use Rattle.identifier_generator.specs.Entry.{entry_size}
-use Rattle.identifier_generator.proofs.Sizes.{size_within, rest_shorter}
-use Rattle.identifier_generator.proofs.Passing.{nowhere, here, in_the_rest}
 use Rattle.identifier_generator.proofs.stands_in.Given as goal
 
 abbrev pub invariant-loop-rest : goal.invariant-loop-rest

@@ -1,11 +1,8 @@
 -- `well_spelled` has found the bytes before `i` to be lawful. The measure is what is left of the name. Assumes nothing.
-use borrow.Author.Rules.{rules}
-use Prim.Native.Nat.{◌≤◌, ◌-◌}
-use mathlib.Core.Path.{◌≡◌, sym, ◌∙◌}
+use mathlib.Core.Path.{sym, ◌∙◌}
 use native.Mathlib.Omega.{arith}
 use borrow.Author.Tests.{lt-leb}
-use lib.ListN.{length, drop}
-use Rattle.theory.specs.NameText.{name_bytes, well_spelled}
+use lib.ListN.{length}
 use Rattle.identifier_generator.proofs.Bytes.{wrong_length, right_length, good_byte, bad_byte, no_byte_left, below_range, from_low}
 use Rattle.identifier_generator.proofs.well_spelled.Goals as goal
 
@@ -25,17 +22,17 @@ loop-i-init c =
 
 pub loop-i-preserved : goal.loop-i-preserved
 loop-i-preserved c =
-        let name = c.args.name.now in (
+    let name = c.args.name.now in (
       omega arith,
       c.loop-i.invariant.1 ∙ good_byte name c.loop-i.i (omega arith) (sym c.name_byte.ensures ∙ c.if-name_byte.true),
     )
 
 pub returns-else-name_byte : goal.returns-else-name_byte
 returns-else-name_byte c =
-        let name = c.args.name.now in
+    let name = c.args.name.now in
     sym (c.loop-i.invariant.1 ∙ bad_byte name c.loop-i.i (omega arith) (sym c.name_byte.ensures ∙ c.if-name_byte.false))
 
 pub returns : goal.returns
 returns c =
-        let name = c.args.name.now in
+    let name = c.args.name.now in
     sym (c.loop-i.invariant.1 ∙ no_byte_left name c.loop-i.i (omega arith))

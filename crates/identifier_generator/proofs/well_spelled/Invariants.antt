@@ -1,12 +1,8 @@
 -- `well_spelled` has found the bytes before `i` to be lawful. The measure is what is left of the name. Assumes nothing.
-use borrow.Author.Rules.{rules}
 use Prim.Native.Nat.{◌≤◌, ◌-◌}
-use mathlib.Core.Path.{◌≡◌, sym, ◌∙◌}
-use native.Mathlib.Omega.{arith}
-use borrow.Author.Tests.{lt-leb}
+use mathlib.Core.Path.{◌≡◌}
 use lib.ListN.{length, drop}
 use Rattle.theory.specs.NameText.{name_bytes, well_spelled}
-use Rattle.identifier_generator.proofs.Bytes.{wrong_length, right_length, good_byte, bad_byte, no_byte_left, below_range, from_low}
 use Rattle.identifier_generator.proofs.well_spelled.Given as goal
 
 abbrev pub invariant-loop-i : goal.invariant-loop-i

@@ -1,5 +1,4 @@
 -- `write_alone` writes by the case that the index and the room fall under. Assumes nothing.
-use borrow.Author.Rules.{rules}
 use native.Mathlib.Omega.{arith}
 use lib.ListN.{length}
 use Rattle.theory.specs.Names.{spell}

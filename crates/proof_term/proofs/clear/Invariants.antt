@@ -1,11 +1,9 @@
 -- `clear` has zeroed the numbers from `from` up to `i`. The measure is what is left of the slice. Assumes nothing.
-use borrow.Author.Rules.{rules}
 use Prim.Native.Nat.{◌-◌, ◌≤◌}
-use mathlib.Core.Path.{◌≡◌, refl, ◌∙◌}
-use mathlib.Core.Logic.{◌⊎◌, inl, inr}
-use native.Mathlib.Omega.{arith}
+use mathlib.Core.Path.{◌≡◌}
+use mathlib.Core.Logic.{◌⊎◌}
 use lib.ListN.{length}
-use Rattle.theory.proofs.Cleared.{Clearing, clearing_starts, clearing_goes, clearing_done, padded_take}
+use Rattle.theory.proofs.Cleared.{Clearing}
 use Rattle.proof_term.proofs.clear.Given as goal
 
 abbrev pub invariant-loop-i : goal.invariant-loop-i

@@ -1,10 +1,6 @@
 -- `count_names` has counted the names before the rest, each of a byte at least. The measure is the length of the rest. Assumes nothing.
-use borrow.Author.Rules.{rules}
-use Prim.Native.Nat.{◌+◌, ◌≤◌}
-use mathlib.Core.Path.{◌≡◌, sym, ◌∙◌}
+use mathlib.Core.Path.{sym, ◌∙◌}
 use native.Mathlib.Omega.{arith}
-use lib.ListN.{length}
-use Rattle.theory.specs.NameText.{names_in}
 use Rattle.identifier_generator.proofs.Sizes.{size_within, rest_shorter}
 use Rattle.proof_term.proofs.NameCount.{no_more, one_more}
 use Rattle.proof_term.proofs.count_names.Goals as goal
@@ -15,7 +11,7 @@ loop-rest-init c =
 
 pub returns-then-size-eq0 : goal.returns-then-size-eq0
 returns-then-size-eq0 c =
-        omega (arith, no_more c.loop-rest.rest.now (sym c.if-size-eq0.true ∙ c.entry_size-size.ensures))
+    omega (arith, no_more c.loop-rest.rest.now (sym c.if-size-eq0.true ∙ c.entry_size-size.ensures))
 
 pub slice_bounds-rest-count : goal.slice_bounds-rest-count
 slice_bounds-rest-count c =

@@ -1,12 +1,8 @@
 -- `count_names` has counted the names before the rest, each of a byte at least. The measure is the length of the rest. Assumes nothing.
-use borrow.Author.Rules.{rules}
 use Prim.Native.Nat.{◌+◌, ◌≤◌}
-use mathlib.Core.Path.{◌≡◌, sym, ◌∙◌}
-use native.Mathlib.Omega.{arith}
+use mathlib.Core.Path.{◌≡◌}
 use lib.ListN.{length}
 use Rattle.theory.specs.NameText.{names_in}
-use Rattle.identifier_generator.proofs.Sizes.{size_within, rest_shorter}
-use Rattle.proof_term.proofs.NameCount.{no_more, one_more}
 use Rattle.proof_term.proofs.count_names.Given as goal
 
 abbrev pub invariant-loop-rest : goal.invariant-loop-rest

@@ -1,5 +1,4 @@
 -- `proof_term::lawful_field` meets its contract. Assumes nothing.
-use borrow.Author.Rules.{rules}
 use mathlib.Core.Path.{◌∙◌}
 use Rattle.theory.specs.Layout.{lawful_field}
 use Rattle.proof_term.proofs.FieldLaws.{field_read}

@@ -1,5 +1,4 @@
 -- `proof_term::store` meets its contract. Assumes nothing.
-use borrow.Author.Rules.{rules}
 use mathlib.Core.Path.{sym}
 use lib.Seq.{set_out}
 use Rattle.proof_term.proofs.store.Goals as goal

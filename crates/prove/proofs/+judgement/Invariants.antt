@@ -1,5 +1,6 @@
 -- What falls in the cycle: eight times the weight of the sequent by right, left or search, and the member's rank among those that are
--- entered with the same sequent. Left and the positions go on in loops; each outcome that fits from here fits from the start. Assumes nothing.
+-- entered with the same sequent. Left and the positions go on in loops; each outcome that fits from here fits from the start.
+-- Assumes nothing.
 use Rattle.std.proofs.Common.{◌≡◌, ◌+◌, ◌-◌, ◌*◌, length}
 use Rattle.theory.specs.NameText.{names_in}
 use Rattle.theory.specs.Names.{skipped}

@@ -1,5 +1,4 @@
 -- `start`: the assumptions are written, and right comes to what the whole search answers; or there is no room for them. Assumes nothing.
-use borrow.Author.Rules.{rules}
 use mathlib.Core.Path.{refl, ap}
 use native.Mathlib.Omega.{arith}
 use Rattle.theory.proofs.Passing.{passes}
@@ -11,21 +10,28 @@ use Rattle.prove.proofs.start.Goals as goal
 
 pub returns-then-limits-assumed : goal.returns-then-limits-assumed
 returns-then-limits-assumed c =
-            ends_short (claim_of c.args.words.now c.args.count c.args.assumed.now c.args.names.now c.args.goal c.args.terms.now (length c.args.work.now) c.args.steps) c.args.work.now c.requires refl
+    ends_short (claim_of c.args.words.now c.args.count c.args.assumed.now c.args.names.now c.args.goal c.args.terms.now
+    (length c.args.work.now) c.args.steps) c.args.work.now c.requires refl
     (omega (arith, c.if-limits-assumed.true, ap (λ v. v.terms) c.limits-limits.ensures))
 
 pub assume-sequent-requires : goal.assume-sequent-requires
 assume-sequent-requires c =
-        (passes (claim_of c.args.words.now c.args.count c.args.assumed.now c.args.names.now c.args.goal c.args.terms.now (length c.args.work.now) c.args.steps) c.requires).few
+    (passes (claim_of c.args.words.now c.args.count c.args.assumed.now c.args.names.now c.args.goal c.args.terms.now
+    (length c.args.work.now) c.args.steps) c.requires).few
 
 pub right-requires : goal.right-requires
 right-requires c =
-            let e = c.assume-sequent.ensures in
-    let x = claim_of c.args.words.now c.args.count c.args.assumed.now c.args.names.now c.args.goal c.args.terms.now (length c.args.work.now) c.args.steps in record { represented = right_asks x c.args.work.now c.requires refl c.limits-limits.ensures e.terms e.work e.result c.if-limits-assumed.false; few = few_names x c.args.work.now c.requires refl }
+    let e = c.assume-sequent.ensures in
+    let x = claim_of c.args.words.now c.args.count c.args.assumed.now c.args.names.now c.args.goal c.args.terms.now
+    (length c.args.work.now) c.args.steps in record {
+      represented = right_asks x c.args.work.now c.requires refl c.limits-limits.ensures e.terms e.work e.result c.if-limits-assumed.false;
+      few = few_names x c.args.work.now c.requires refl;
+    }
 
 pub returns : goal.returns
 returns c =
-            let x = claim_of c.args.words.now c.args.count c.args.assumed.now c.args.names.now c.args.goal c.args.terms.now (length c.args.work.now) c.args.steps in
+    let x = claim_of c.args.words.now c.args.count c.args.assumed.now c.args.names.now c.args.goal c.args.terms.now
+    (length c.args.work.now) c.args.steps in
     let e = c.assume-sequent.ensures in
     right_ends x c.args.work.now c.requires refl
     c.limits-limits.ensures e.terms e.work e.result c.if-limits-assumed.false

@@ -12,7 +12,7 @@ use Rattle.quaysaffron.proofs.answer.Goals.{In-Bytes}
 -- what was read is a front part of the buffer
 front : (c : In-Bytes) → c.in-Bytes.n ≤ length c.read_rest-input.new.buf
 front c =
-        (subst (λ (r : Input). Behind 0 r c.read_rest-input.new.buf) c.in-Bytes.is
+    (subst (λ (r : Input). Behind 0 r c.read_rest-input.new.buf) c.in-Bytes.is
     c.read_rest-input.ensures.behind).1
 
 pub slice_bounds-file-end : goal.slice_bounds-file-end

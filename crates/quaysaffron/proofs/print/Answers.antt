@@ -21,5 +21,5 @@ slice_bounds-write_lines-end c =
 
 pub write_lines-requires : goal.write_lines-requires
 write_lines-requires c =
-        padded_front 32835 (printed c.args.file.now) c.output-n.ensures.out
+    padded_front 32835 (printed c.args.file.now) c.output-n.ensures.out
     c.output-n.ensures.length

@@ -17,7 +17,7 @@ turned : (c : In-Bytes) →
     c.loop-done.buf (Bytes c.in-Bytes.all)
     c.read_more-piece.new.buf
 turned c =
-        let turn = c.loop-done in
+    let turn = c.loop-done in
     subst (λ (r : Input). Grown turn.done turn.buf r c.read_more-piece.new.buf) c.in-Bytes.is
     c.read_more-piece.ensures
 
@@ -31,7 +31,7 @@ read_more-piece-requires c =
 
 pub returns-in_default : goal.returns-in_default
 returns-in_default c =
-        record { kept = (grown_on c.loop-done.invariant.0 c.read_more-piece.ensures).kept; behind = tt }
+    record { kept = (grown_on c.loop-done.invariant.0 c.read_more-piece.ensures).kept; behind = tt }
 
 pub returns-then-all-done : goal.returns-then-all-done
 returns-then-all-done c =

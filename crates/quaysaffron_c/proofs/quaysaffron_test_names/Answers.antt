@@ -1,5 +1,4 @@
 -- `quaysaffron_test_names`: where the test finds a fault, that place is told. Assumes nothing.
-use borrow.Author.Rules.{rules}
 use mathlib.Core.Path.{refl}
 use Rattle.theory.specs.Refusal.{BadNames, fault_at}
 use Rattle.refusal.specs.Answers.{place_of}
@@ -10,9 +9,9 @@ use Rattle.quaysaffron_c.proofs.quaysaffron_test_names.Goals as goal
 pub returns-in-Nowhere : goal.returns-in-Nowhere
 unfolding place_of fault_at refused_by
 returns-in-Nowhere c =
-        test_told BadNames c.bad_name.ensures c.in-Nowhere.is refl c.tell_test.ensures
+    test_told BadNames c.bad_name.ensures c.in-Nowhere.is refl c.tell_test.ensures
 
 pub returns-in-At : goal.returns-in-At
 unfolding place_of fault_at refused_by
 returns-in-At c =
-        test_told BadNames c.bad_name.ensures c.in-At.is refl c.tell_test-in-At.ensures
+    test_told BadNames c.bad_name.ensures c.in-At.is refl c.tell_test-in-At.ensures

@@ -1,5 +1,4 @@
 -- `tell_outcome`: the outcome's case tells. Assumes nothing.
-use borrow.Author.Rules.{rules}
 use Rattle.call.specs.Outcomes.{numbers_of}
 use Rattle.quaysaffron_c.specs.Told.{kind_of}
 use Rattle.quaysaffron_c.proofs.Told.{told_alike}

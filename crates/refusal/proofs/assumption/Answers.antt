@@ -1,7 +1,6 @@
 -- `assumption`: past the end the list's own default is read. Assumes nothing.
 use mathlib.Core.Path.{sym}
 use native.Mathlib.Omega.{arith}
-use borrow.Author.Rules.{rules}
 use lib.ListN.{get_or-eq_default}
 use Rattle.refusal.proofs.assumption.Goals as goal
 

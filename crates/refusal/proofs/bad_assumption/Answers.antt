@@ -1,6 +1,5 @@
 -- `bad_assumption`: the count, and then the indices. Assumes nothing.
 use mathlib.Core.Path.{sym, ap, ◌∙◌}
-use borrow.Author.Rules.{rules}
 use Rattle.refusal.specs.Answers.{place_of}
 use Rattle.refusal.proofs.Walks.{too_many_first, then_outside}
 use Rattle.refusal.proofs.bad_assumption.Goals as goal

@@ -1,11 +1,10 @@
 -- `bad_name` has passed lawful names up to `at`. The measure is the number of names still to come. Assumes nothing.
-use borrow.Author.Rules.{rules}
-use Prim.Native.Nat.{◌+◌, ◌-◌, ◌≤◌}
+use Prim.Native.Nat.{◌+◌, ◌≤◌}
 use mathlib.Core.Path.{sym, ◌∙◌}
 use native.Mathlib.Omega.{arith}
 use lib.ListN.{length}
 use lib.Seq.{length-take-le}
-use Rattle.refusal.proofs.NameWalk.{Passed, none_passed, surplus, all_passed}
+use Rattle.refusal.proofs.NameWalk.{none_passed, surplus, all_passed}
 use Rattle.refusal.proofs.NameWalk.{cut_fault, unlawful_fault, one_more}
 use Rattle.identifier_generator.proofs.Cursor.{end_inside}
 use Rattle.refusal.specs.Answers.{place_of}
@@ -17,7 +16,7 @@ ends : (c : Else-size-eq0) →
     c.loop-place.at + c.entry_size-size.result ≤
     length c.args.text.now
 ends c =
-        let sized = c.entry_size-size in
+    let sized = c.entry_size-size in
     end_inside c.args.text.now c.loop-place.at sized.result sized.ensures c.loop-place.invariant.inside
 
 pub loop-place-init : goal.loop-place-init
@@ -63,7 +62,7 @@ slice_bounds-lawful-end c =
 
 pub slice_bounds-lawful-end-in-loop-place : goal.slice_bounds-lawful-end-in-loop-place
 slice_bounds-lawful-end-in-loop-place c =
-        sym (length-take-le c.loop-place.at c.args.text.now c.loop-place.invariant.inside)
+    sym (length-take-le c.loop-place.at c.args.text.now c.loop-place.invariant.inside)
 
 pub overflow_add-place : goal.overflow_add-place
 overflow_add-place c =

@@ -1,14 +1,6 @@
 -- `bad_name` has passed lawful names up to `at`. The measure is the number of names still to come. Assumes nothing.
-use borrow.Author.Rules.{rules}
-use Prim.Native.Nat.{◌+◌, ◌-◌, ◌≤◌}
-use mathlib.Core.Path.{sym, ◌∙◌}
-use native.Mathlib.Omega.{arith}
-use lib.ListN.{length}
-use lib.Seq.{length-take-le}
-use Rattle.refusal.proofs.NameWalk.{Passed, none_passed, surplus, all_passed}
-use Rattle.refusal.proofs.NameWalk.{cut_fault, unlawful_fault, one_more}
-use Rattle.identifier_generator.proofs.Cursor.{end_inside}
-use Rattle.refusal.specs.Answers.{place_of}
+use Prim.Native.Nat.{◌-◌}
+use Rattle.refusal.proofs.NameWalk.{Passed}
 use Rattle.refusal.proofs.bad_name.Given as goal
 
 abbrev pub invariant-loop-place : goal.invariant-loop-place

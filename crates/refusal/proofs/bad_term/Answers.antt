@@ -1,10 +1,7 @@
 -- `bad_term` walks on where the lowest bad node is still the lowest from here. The measure is how many nodes are left. Assumes nothing.
-use borrow.Author.Rules.{rules}
-use Prim.Native.Nat.{◌-◌, ◌≤◌}
-use mathlib.Core.Path.{◌≡◌, sym, ap, ◌∙◌}
+use mathlib.Core.Path.{sym, ap, ◌∙◌}
 use native.Mathlib.Nat.{sub-zero}
 use native.Mathlib.Omega.{arith}
-use Rattle.theory.specs.NameText.{names_in}
 use Rattle.theory.specs.Layout.{bad_node_from}
 use Rattle.theory.proofs.LawfulNodes.{node_refused, root_refused, term_passes}
 use Rattle.refusal.proofs.TermWalk.{walk_on, walk_stops, walk_ends}
@@ -24,16 +21,15 @@ loop-i-smaller c =
     omega arith
 
 pub loop-i-preserved : goal.loop-i-preserved
-loop-i-preserved c =
-    (
-      omega arith,
-      walk_on _ _ _ _ _ c.loop-i-test.true (sym c.lawful_node.ensures ∙ c.if-lawful_node.true) ∙ c.loop-i.invariant.1,
-    )
+loop-i-preserved c = (
+  omega arith,
+  walk_on _ _ _ _ _ c.loop-i-test.true (sym c.lawful_node.ensures ∙ c.if-lawful_node.true) ∙ c.loop-i.invariant.1,
+)
 
 pub returns-else-lawful_node : goal.returns-else-lawful_node
 unfolding place_of
 returns-else-lawful_node c =
-        let stop = walk_stops _ _ _ _ _ c.loop-i-test.true (sym c.lawful_node.ensures ∙ c.if-lawful_node.false) in
+    let stop = walk_stops _ _ _ _ _ c.loop-i-test.true (sym c.lawful_node.ensures ∙ c.if-lawful_node.false) in
     sym (node_refused _ _ _ _ _ _ (sym c.loop-i.invariant.1 ∙ stop))
 
 pub returns-then-root-nodes : goal.returns-then-root-nodes

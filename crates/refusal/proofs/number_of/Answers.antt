@@ -3,7 +3,6 @@ use mathlib.Core.Path.{sym, ap}
 use Rattle.theory.specs.Refusal.{fault_number}
 use Rattle.refusal.specs.declared.Tested.{Tested}
 use Rattle.refusal.specs.Table.{refused_by, number_in}
-use borrow.Author.Rules.{rules}
 use Rattle.refusal.proofs.number_of.Goals as goal
 
 pub returns-in-Passed : goal.returns-in-Passed

@@ -1,13 +1,11 @@
 -- `outside`: the indices before i are below the count, so the first that is not is the first from i on. Assumes nothing.
-use Prim.Native.Nat.{ℕ, ◌-◌, ◌≤◌, zero-le}
-use mathlib.Core.Path.{◌≡◌, refl, sym, ap, ◌∙◌}
+use Prim.Native.Nat.{ℕ, zero-le}
+use mathlib.Core.Path.{refl, sym, ap, ◌∙◌}
 use native.Mathlib.Omega.{arith}
-use lib.ListN.{length}
 use lib.Dec.{ltb}
 use borrow.Author.Tests.{lt-ltb, le-ltb}
-use Rattle.theory.specs.Refusal.{outside_from}
 use Rattle.refusal.specs.Answers.{place_of}
-use Rattle.refusal.proofs.Walks.{outside_onward, outside_ends, outside_bad, outside_good}
+use Rattle.refusal.proofs.Walks.{outside_ends, outside_bad, outside_good}
 use Rattle.refusal.proofs.outside.Goals as goal
 
 pub loop-i-init : goal.loop-i-init

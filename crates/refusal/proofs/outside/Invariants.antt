@@ -1,13 +1,9 @@
 -- `outside`: the indices before i are below the count, so the first that is not is the first from i on. Assumes nothing.
-use Prim.Native.Nat.{ℕ, ◌-◌, ◌≤◌, zero-le}
-use mathlib.Core.Path.{◌≡◌, refl, sym, ap, ◌∙◌}
-use native.Mathlib.Omega.{arith}
+use Prim.Native.Nat.{◌-◌, ◌≤◌}
+use mathlib.Core.Path.{◌≡◌}
 use lib.ListN.{length}
-use lib.Dec.{ltb}
-use borrow.Author.Tests.{lt-ltb, le-ltb}
 use Rattle.theory.specs.Refusal.{outside_from}
-use Rattle.refusal.specs.Answers.{place_of}
-use Rattle.refusal.proofs.Walks.{outside_onward, outside_ends, outside_bad, outside_good}
+use Rattle.refusal.proofs.Walks.{outside_onward}
 use Rattle.refusal.proofs.outside.Given as goal
 
 abbrev pub invariant-loop-i : goal.invariant-loop-i

@@ -2,7 +2,6 @@
 use mathlib.Core.Path.{sym, ap}
 use Rattle.refusal.specs.declared.Tested.{Tested}
 use Rattle.refusal.specs.Table.{refused_by, place_in}
-use borrow.Author.Rules.{rules}
 use Rattle.refusal.proofs.place_of.Goals as goal
 
 pub returns-in-Passed : goal.returns-in-Passed

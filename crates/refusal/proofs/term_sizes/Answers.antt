@@ -1,5 +1,4 @@
 -- `term_sizes`: whole nodes first, then the room. Assumes nothing.
-use borrow.Author.Rules.{rules}
 use borrow.Author.Tests.{eq-eqb, ne_eqb}
 use Rattle.theory.specs.Refusal.{term_sizes}
 use Rattle.refusal.proofs.term_sizes.Goals as goal

@@ -1,5 +1,4 @@
 -- `work_sizes`: the records give a level, and then the steps. Assumes nothing.
-use borrow.Author.Rules.{rules}
 use Rattle.theory.specs.Refusal.{work_sizes, is_some}
 use Rattle.refusal.specs.Answers.{level_of}
 use Rattle.refusal.proofs.work_sizes.Goals as goal

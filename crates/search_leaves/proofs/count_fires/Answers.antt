@@ -1,8 +1,5 @@
 -- So many of the first i records fire. Assumes nothing.
 use borrow.Author.Rules.{rules}
-use mathlib.Core.Path.{◌≡◌}
-use Prim.Native.Nat.{◌-◌, ◌≤◌}
-use Rattle.search_laws.specs.Leaves.{firing_in}
 use Rattle.search_leaves.proofs.Walk.{counts_start, counts_one, counts_none, counts_end}
 use Rattle.search_leaves.proofs.count_fires.Goals as goal
 
@@ -11,22 +8,20 @@ loop-i-init c =
     (search rules, search rules, counts_start _ _ _ _)
 
 pub loop-i-preserved-then-fires-all : goal.loop-i-preserved-then-fires-all
-loop-i-preserved-then-fires-all c =
-    (
+loop-i-preserved-then-fires-all c = (
   search rules,
   search rules,
   counts_one _ _ _ _ _ c.loop-i.invariant.2 c.fires.ensures
       c.if-fires-all.true,
-    )
+)
 
 pub loop-i-preserved : goal.loop-i-preserved
-loop-i-preserved c =
-    (
+loop-i-preserved c = (
   search rules,
   search rules,
   counts_none _ _ _ _ _ c.loop-i.invariant.2 c.fires.ensures
       c.if-fires-all.false,
-    )
+)
 
 pub returns : goal.returns
 returns c =

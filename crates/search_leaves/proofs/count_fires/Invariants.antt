@@ -1,9 +1,7 @@
 -- So many of the first i records fire. Assumes nothing.
-use borrow.Author.Rules.{rules}
 use mathlib.Core.Path.{◌≡◌}
 use Prim.Native.Nat.{◌-◌, ◌≤◌}
 use Rattle.search_laws.specs.Leaves.{firing_in}
-use Rattle.search_leaves.proofs.Walk.{counts_start, counts_one, counts_none, counts_end}
 use Rattle.search_leaves.proofs.count_fires.Given as goal
 
 abbrev pub invariant-loop-i : goal.invariant-loop-i

@@ -1,7 +1,6 @@
 -- What is left of the search for the leaf is the search from i on. Assumes nothing.
-use borrow.Author.Rules.{rules}
 use Prim.Native.Nat.{◌-◌}
-use Rattle.search_leaves.proofs.Walk.{Looking, looking_starts, looking_found, looking_on, looking_ends}
+use Rattle.search_leaves.proofs.Walk.{Looking}
 use Rattle.search_leaves.proofs.find_leaf.Given as goal
 
 abbrev pub invariant-loop-i : goal.invariant-loop-i

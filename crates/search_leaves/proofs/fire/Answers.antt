@@ -3,7 +3,6 @@ use native.Mathlib.Omega.{arith}
 use Rattle.search_laws.specs.Turning.{turns_on, turns_end, turns_try}
 use Rattle.search_laws.proofs.Settle.{settle_try, settle_short, settle_goes}
 use Rattle.search_leaves.proofs.Fall.{count_few, may_fire, may_spend}
-use borrow.Author.Rules.{rules}
 use Rattle.search_leaves.proofs.fire.Goals as goal
 
 pub returns-then-c-eq0 : goal.returns-then-c-eq0

@@ -1,12 +1,7 @@
 -- For whatever the walk may start from, it has come down to position i. Assumes nothing.
 use borrow.Author.Rules.{rules}
 use native.Mathlib.Omega.{arith}
-use mathlib.Core.Path.{◌≡◌}
-use Prim.Native.Nat.{ℕ, ◌-◌}
-use lib.ListN.{length}
-use Rattle.meter.specs.declared.Limits.{Limits}
-use Rattle.search_laws.proofs.Firing.{FallenTo}
-use Rattle.search_leaves.proofs.Fall.{Start, start_of, walk_starts, walk_fits, walk_past, walk_some, walk_fires}
+use Rattle.search_leaves.proofs.Fall.{start_of, walk_starts, walk_fits, walk_past, walk_some, walk_fires}
 use Rattle.search_leaves.proofs.Fall.{walk_ends, before_one}
 use Rattle.search_leaves.proofs.fire_all.Goals as goal
 
@@ -36,25 +31,27 @@ overflow_sub-n c =
 
 pub fire_one-p-requires : goal.fire_one-p-requires
 fire_one-p-requires c =
-    record { places = omega (
-      arith,
-      c.if-j-p.true,
-      walk_fits
-          (start_of c.requires)
-          (c.loop-i.invariant.2 _ _ _
-          (start_of c.requires)),
-    ); room = omega (
-      arith,
-      c.if-j-p.true,
-      walk_fits
-          (start_of c.requires)
-          (c.loop-i.invariant.2 _ _ _
-          (start_of c.requires)),
-    ) }
+    record {
+      places = omega (
+        arith,
+        c.if-j-p.true,
+        walk_fits
+            (start_of c.requires)
+            (c.loop-i.invariant.2 _ _ _
+            (start_of c.requires)),
+      );
+      room = omega (
+        arith,
+        c.if-j-p.true,
+        walk_fits
+            (start_of c.requires)
+            (c.loop-i.invariant.2 _ _ _
+            (start_of c.requires)),
+      );
+    }
 
 pub loop-i-preserved-then-j-p : goal.loop-i-preserved-then-j-p
-loop-i-preserved-then-j-p c =
-    (
+loop-i-preserved-then-j-p c = (
   search rules,
   search rules,
   λ m nf base st.
@@ -66,11 +63,10 @@ loop-i-preserved-then-j-p c =
       c.fire_one-p.ensures.terms
       c.fire_one-p.ensures.work
       c.fire_one-p.ensures.result,
-    )
+)
 
 pub loop-i-preserved : goal.loop-i-preserved
-loop-i-preserved c =
-    (
+loop-i-preserved c = (
   search rules,
   search rules,
   λ m nf base st.
@@ -79,7 +75,7 @@ loop-i-preserved c =
       (before_one c.loop-i-test.true)
       c.fires-j.ensures
       c.if-j-p.false,
-    )
+)
 
 pub returns : goal.returns
 returns c =

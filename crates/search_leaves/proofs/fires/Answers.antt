@@ -1,6 +1,5 @@
 -- Whether a record fires goes by the kind of its formula and of what that goes from. Assumes nothing.
 use Rattle.search_leaves.proofs.Walk.{no_implication, by_leaf, by_other}
-use borrow.Author.Rules.{rules}
 use Rattle.search_leaves.proofs.fires.Goals as goal
 
 pub returns-then-kind-ne-IMPL : goal.returns-then-kind-ne-IMPL

@@ -1,6 +1,5 @@
 -- The goal's leaf is looked for only where the goal is one. Assumes nothing.
 use Rattle.search_leaves.proofs.Walk.{place_as, place_none}
-use borrow.Author.Rules.{rules}
 use Rattle.search_leaves.proofs.goal_leaf.Goals as goal
 
 pub returns-then-leaf_kind : goal.returns-then-leaf_kind

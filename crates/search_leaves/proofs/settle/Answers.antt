@@ -1,5 +1,4 @@
 -- Rule 1, and then rule 2. Assumes nothing.
-use borrow.Author.Rules.{rules}
 use Rattle.search_laws.specs.Turning.{turns_end}
 use Rattle.search_laws.proofs.Settle.{settle_leaf}
 use Rattle.search_leaves.proofs.Fall.{absent_by}
@@ -16,10 +15,13 @@ returns-then-j-sequent c =
 
 pub fire-requires : goal.fire-requires
 fire-requires c =
-    record { represented = c.requires.represented; absent = (
-    c.requires.empty,
-    absent_by c.goal_leaf-j.ensures c.if-j-sequent.false,
-  ) }
+    record {
+      represented = c.requires.represented;
+      absent = (
+        c.requires.empty,
+        absent_by c.goal_leaf-j.ensures c.if-j-sequent.false,
+      );
+    }
 
 pub returns : goal.returns
 returns c =

@@ -1,5 +1,4 @@
 -- `close` meets its contract: no room for the node, or the node. Assumes nothing.
-use borrow.Author.Rules.{rules}
 use Rattle.search_left.proofs.Written.{close_is}
 use Rattle.search_laws.specs.Closing.{closes_short}
 use native.Mathlib.Omega.{arith}

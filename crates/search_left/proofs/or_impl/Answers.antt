@@ -1,5 +1,4 @@
 -- `or_impl` meets its contract: a charge that passes a limit, or A→C and B→C in the place of (A∨B)→C. Assumes nothing.
-use borrow.Author.Rules.{rules}
 use native.Mathlib.Omega.{arith}
 use Prim.Native.Nat.{◌+◌}
 use mathlib.Core.Path.{refl}
@@ -12,70 +11,78 @@ use Rattle.search_left.proofs.or_impl.Goals as goal
 
 pub overflow_add-first : goal.overflow_add-first
 overflow_add-first c =
-        omega (arith, first_near c.requires.represented c.args.names.now c.requires.few c.fresh-first.ensures)
+    omega (arith, first_near c.requires.represented c.args.names.now c.requires.few c.fresh-first.ensures)
 
 pub fresh-second-requires : goal.fresh-second-requires
 fresh-second-requires c =
-        let h = first_near c.requires.represented c.args.names.now c.requires.few c.fresh-first.ensures in omega arith
+    let h = first_near c.requires.represented c.args.names.now c.requires.few c.fresh-first.ensures in omega arith
 
 pub overflow_add-used : goal.overflow_add-used
 overflow_add-used c =
-            omega (arith, second_near c.requires.represented c.args.names.now c.requires.few c.fresh-first.ensures c.fresh-second.ensures)
+    omega (arith, second_near c.requires.represented c.args.names.now c.requires.few c.fresh-first.ensures c.fresh-second.ensures)
 
 pub returns-then-n-ne0 : goal.returns-then-n-ne0
 returns-then-n-ne0 c =
-                    sides_short (skipped (names_in c.args.names.now)) c.requires.represented c.fresh-first.ensures c.fresh-second.ensures c.requires.last
+    sides_short (skipped (names_in c.args.names.now)) c.requires.represented c.fresh-first.ensures
+    c.fresh-second.ensures c.requires.last
     c.lack-n.ensures c.if-n-ne0.true
 
 pub arrow-requires : goal.arrow-requires
 arrow-requires c =
-                                    let r = sides_in (skipped (names_in c.args.names.now)) c.requires.represented c.fresh-first.ensures c.fresh-second.ensures c.requires.last
+    let r = sides_in (skipped (names_in c.args.names.now)) c.requires.represented
+    c.fresh-first.ensures c.fresh-second.ensures c.requires.last
     c.lack-n.ensures c.if-n-ne0.false c.left-i.ensures c.right-c.ensures c.right-r.ensures c.left.ensures in
     (r.0, r.2)
 
 pub arrow-requires-2 : goal.arrow-requires-2
 arrow-requires-2 c =
-                                        let r = sides_in (skipped (names_in c.args.names.now)) c.requires.represented c.fresh-first.ensures c.fresh-second.ensures c.requires.last
+    let r = sides_in (skipped (names_in c.args.names.now)) c.requires.represented
+    c.fresh-first.ensures c.fresh-second.ensures c.requires.last
     c.lack-n.ensures c.if-n-ne0.false c.left-i.ensures c.right-c.ensures c.right-r.ensures c.left.ensures in
     (r.1, r.2)
 
 pub composed-requires : goal.composed-requires
 composed-requires c =
-                        let o = sides_room (skipped (names_in c.args.names.now)) c.requires.represented c.fresh-first.ensures c.fresh-second.ensures c.requires.last
+    let o = sides_room (skipped (names_in c.args.names.now)) c.requires.represented c.fresh-first.ensures
+    c.fresh-second.ensures c.requires.last
     c.lack-n.ensures c.if-n-ne0.false in
     (omega arith, o.2)
 
 pub composed-requires-2 : goal.composed-requires-2
 composed-requires-2 c =
-                        let o = sides_room (skipped (names_in c.args.names.now)) c.requires.represented c.fresh-first.ensures c.fresh-second.ensures c.requires.last
+    let o = sides_room (skipped (names_in c.args.names.now)) c.requires.represented c.fresh-first.ensures
+    c.fresh-second.ensures c.requires.last
     c.lack-n.ensures c.if-n-ne0.false in
     (omega arith, o.3)
 
 pub pop-rest-requires : goal.pop-rest-requires
 pop-rest-requires c =
-        c.requires.last.last.some
+    c.requires.last.last.some
 
 pub push-q1-requires : goal.push-q1-requires
 push-q1-requires c =
-            push_room c.requires.represented c.requires.last.last.some c.pop-rest.ensures
+    push_room c.requires.represented c.requires.last.last.some c.pop-rest.ensures
 
 pub push-q2-requires : goal.push-q2-requires
 push-q2-requires c =
-                            let st = c.args.state in
+    let st = c.args.state in
     let q = c.args.sequent in
     push_room_more c.requires.represented (c.fresh-second.result + 1) (st.formulas + 2) (st.terms + 10) (q.unordered + q.ordered + 1)
     c.lack-n.ensures c.if-n-ne0.false refl c.requires.last.last.some c.pop-rest.ensures c.push-q1.ensures.result
 
 pub spend-requires : goal.spend-requires
 spend-requires c =
-                        let o = sides_room (skipped (names_in c.args.names.now)) c.requires.represented c.fresh-first.ensures c.fresh-second.ensures c.requires.last
+    let o = sides_room (skipped (names_in c.args.names.now)) c.requires.represented c.fresh-first.ensures
+    c.fresh-second.ensures c.requires.last
     c.lack-n.ensures c.if-n-ne0.false in
     (o.0, o.1)
 
 pub returns : goal.returns
 unfolding six_of
 returns c =
-                                                                    sides_on (skipped (names_in c.args.names.now)) c.requires.represented c.fresh-first.ensures c.fresh-second.ensures c.requires.last
+    sides_on (skipped (names_in c.args.names.now))
+    c.requires.represented c.fresh-first.ensures
+    c.fresh-second.ensures c.requires.last
     c.lack-n.ensures c.if-n-ne0.false c.left-i.ensures c.right-c.ensures c.right-r.ensures c.left.ensures
     c.arrow.ensures c.arrow-2.ensures
     (c.composed.ensures (inl _) refl) (c.composed-2.ensures (inr _) refl) c.pop-rest.ensures c.push-q1.ensures.work

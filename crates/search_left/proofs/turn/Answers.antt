@@ -1,5 +1,4 @@
 -- `turn` meets its contract: no step is left, a rule of left, or with nothing ordered a rule of search. Assumes nothing.
-use borrow.Author.Rules.{rules}
 use native.Mathlib.Omega.{arith}
 use Rattle.theory.specs.NameText.{names_in}
 use Rattle.theory.specs.Names.{skipped}
@@ -8,36 +7,46 @@ use Rattle.search_left.proofs.turn.Goals as goal
 
 pub returns-then-limits-state : goal.returns-then-limits-state
 returns-then-limits-state c =
-        turned_stop (skipped (names_in c.args.names.now)) c.requires.represented c.if-limits-state.true
+    turned_stop (skipped (names_in c.args.names.now)) c.requires.represented c.if-limits-state.true
 
 pub counted-s-requires : goal.counted-s-requires
 counted-s-requires c =
-        omega (arith, c.if-limits-state.false, c.requires.represented.rooms.most_steps)
+    omega (arith, c.if-limits-state.false, c.requires.represented.rooms.most_steps)
 
 pub left_rule-requires : goal.left_rule-requires
 left_rule-requires c =
-    record { represented = rep_stepped c.requires.represented c.if-limits-state.false c.counted-s.ensures; some = c.if-sequent-gt0.true; few = c.requires.few }
+    record {
+      represented = rep_stepped c.requires.represented c.if-limits-state.false c.counted-s.ensures;
+      some = c.if-sequent-gt0.true;
+      few = c.requires.few;
+    }
 
 pub returns-then-sequent-gt0 : goal.returns-then-sequent-gt0
 returns-then-sequent-gt0 c =
-                    turned_left (skipped (names_in c.args.names.now)) c.requires.represented c.if-limits-state.false c.counted-s.ensures c.left_rule.ensures
+    turned_left (skipped (names_in c.args.names.now)) c.requires.represented c.if-limits-state.false
+    c.counted-s.ensures c.left_rule.ensures
 
 pub returns-then-limits-s : goal.returns-then-limits-s
 returns-then-limits-s c =
-                    turned_stop_search (skipped (names_in c.args.names.now)) c.requires.represented c.if-limits-state.false c.counted-s.ensures
+    turned_stop_search (skipped (names_in c.args.names.now)) c.requires.represented c.if-limits-state.false
+    c.counted-s.ensures
     (omega (arith, c.if-sequent-gt0.false)) c.if-limits-s.true
 
 pub counted-requires : goal.counted-requires
 counted-requires c =
-            omega (arith, c.if-limits-s.false, c.requires.represented.rooms.most_steps)
+    omega (arith, c.if-limits-s.false, c.requires.represented.rooms.most_steps)
 
 pub settle-requires : goal.settle-requires
 settle-requires c =
-    record { represented = rep_stepped (rep_stepped c.requires.represented c.if-limits-state.false c.counted-s.ensures) c.if-limits-s.false
-          c.counted.ensures; empty = (omega (arith, c.if-sequent-gt0.false)) }
+    record {
+      represented = rep_stepped (rep_stepped c.requires.represented c.if-limits-state.false c.counted-s.ensures) c.if-limits-s.false
+          c.counted.ensures;
+      empty = (omega (arith, c.if-sequent-gt0.false));
+    }
 
 pub returns : goal.returns
 returns c =
-                                turned_search (skipped (names_in c.args.names.now)) c.requires.represented c.if-limits-state.false c.counted-s.ensures
+    turned_search (skipped (names_in c.args.names.now)) c.requires.represented c.if-limits-state.false
+    c.counted-s.ensures
     (omega (arith, c.if-sequent-gt0.false)) c.if-limits-s.false c.counted.ensures
     (c.settle.ensures (skipped (names_in c.args.names.now)))

@@ -1,5 +1,4 @@
 -- `clean`: each clear. Assumes nothing.
-use borrow.Author.Rules.{rules}
 use mathlib.Core.Path.{◌∙◌}
 use Rattle.status.proofs.Lists.{nothing_kept}
 use Rattle.status.proofs.clean.Goals as goal

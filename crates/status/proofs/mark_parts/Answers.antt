@@ -1,5 +1,4 @@
 -- `mark_parts`: a word of a kind that has parts has both marked. Assumes nothing.
-use borrow.Author.Rules.{rules}
 use Prim.Native.Nat.{ℕ, ◌≤◌, ◌<◌}
 use mathlib.Core.Path.{ap, ap₂, ◌∙◌, subst}
 use mathlib.Core.List.{List}
@@ -28,7 +27,7 @@ returns-then-kind-gt-IMPL c =
 pub returns : goal.returns
 unfolding shape
 returns c =
-            let a = c.args in
+    let a = c.args in
     let v : ℕ = get_or a.words.now a.i 0 in
     c.put-2.ensures
     ∙ ap₂ (λ (w : List Rec) (r : ℕ). set w r mark) c.put.ensures c.right.ensures

@@ -1,11 +1,5 @@
 -- `marked_open` goes down with the same answer; what is passed has handed its mark to its parts. Assumes nothing.
-use borrow.Author.Rules.{rules}
-use native.Mathlib.Omega.{arith}
-use Prim.Native.Nat.{ℕ}
-use mathlib.Core.Path.{sym, ap, ◌∙◌}
-use Rattle.theory.specs.Form.{shape}
-use Rattle.status.specs.Marks.{open_by_itself}
-use Rattle.status.proofs.Marked.{Going, going_starts, going_past, going_stops, going_on, going_ends}
+use Rattle.status.proofs.Marked.{Going}
 use Rattle.status.proofs.marked_open.Given as goal
 
 abbrev pub invariant-loop-i : goal.invariant-loop-i

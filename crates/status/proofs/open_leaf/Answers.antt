@@ -1,5 +1,4 @@
 -- `open_leaf`: an atom by its symbol, any other word by its kind. Assumes nothing.
-use borrow.Author.Rules.{rules}
 use mathlib.Core.Path.{sym, ap, ◌∙◌}
 use lib.Dec.{leb, ltb}
 use Rattle.theory.specs.Form.{kind_of, left_of, right_of, shape}

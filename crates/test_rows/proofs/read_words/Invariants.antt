@@ -10,7 +10,8 @@ use Rattle.test_rows.proofs.Laying.{laid_step, laid_end}
 use Rattle.test_rows.proofs.read_words.Given as goal
 
 abbrev pub invariant-loop-i : goal.invariant-loop-i
-invariant-loop-i l = (l.i ≤ l.n) × (length l.f ≡ length l.initial.f) × (laid word_at 4 l.s (l.n - l.i) l.i l.next l.f ≡ laid word_at 4 l.s l.n 0 l.at l.initial.f)
+invariant-loop-i l = (l.i ≤ l.n) × (length l.f ≡ length l.initial.f) ×
+    (laid word_at 4 l.s (l.n - l.i) l.i l.next l.f ≡ laid word_at 4 l.s l.n 0 l.at l.initial.f)
 
 abbrev pub decreases-loop-i : goal.decreases-loop-i
 decreases-loop-i l = l.n - l.i

@@ -1,5 +1,4 @@
 -- `mark_at`: the field of two bits at its place. Assumes nothing.
-use borrow.Author.Rules.{rules}
 use Rattle.theory.proofs.Fields.{take_field}
 use Rattle.refusal.specs.Marks.{mark_at}
 use Rattle.refusal.proofs.marks.mark_at.Goals as goal

@@ -4,4 +4,4 @@ use Rattle.test_runs.proofs.search.answer.Goals as goal
 
 pub shape_of-assumed : goal.shape_of-assumed
 shape_of-assumed c =
-        c.read.ensures
+    c.read.ensures
