@@ -15,8 +15,7 @@
  *   puts in. Calls on buffers that do not overlap may run at once on any threads.
  * - Stack. QUAYSAFFRON_STACK_BYTES below; a thread with less room may overrun it.
  *
- * Nothing panics, unwinds or exits. Link target/staticlib/libquaysaffron_c.a, which `bindings/make library` makes for x86-64 Linux alone;
- * on another machine run the program ./quay, which takes a house file and uses the Rattle kit's emulator there.
+ * Nothing panics, unwinds or exits. Link target/staticlib/libquaysaffron_c.a, which `bindings/make library` makes for x86-64 Linux alone.
  */
 #ifndef QUAYSAFFRON_H
 #define QUAYSAFFRON_H

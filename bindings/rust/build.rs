@@ -15,7 +15,7 @@ fn hindrance(folder: &Path) -> Option<String> {
     let [arch, system, width] = ["ARCH", "OS", "POINTER_WIDTH"].map(target);
     if [&*arch, &*system, &*width] != ["x86_64", "linux", "64"] {
         return Some(format!(
-            "the library is for x86-64 Linux, not for {arch} {system}; run the program ./quay there"
+            "the library is for x86-64 Linux, not for {arch} {system}"
         ));
     }
     // the linker runs in a folder of cargo's choice
