@@ -1,12 +1,8 @@
 -- `read_halves`: what is left to read is the same from the loop's place as from its start. Assumes nothing.
-use Prim.Native.Nat.{ℕ, ◌-◌, ◌≤◌}
-use mathlib.Core.Path.{◌≡◌, refl, sym, ap, ◌∙◌}
-use borrow.Author.Rules.{rules}
-use native.Mathlib.Nat.{sub-zero}
-use native.Mathlib.Omega.{arith}
+use Prim.Native.Nat.{◌-◌, ◌≤◌}
+use mathlib.Core.Path.{◌≡◌}
 use lib.ListN.{length}
 use Rattle.test_rows.specs.Bytes.{half_at, laid}
-use Rattle.test_rows.proofs.Laying.{laid_step, laid_end}
 use Rattle.test_rows.proofs.read_halves.Given as goal
 
 abbrev pub invariant-loop-i : goal.invariant-loop-i

@@ -1,10 +1,9 @@
 -- `read_words`: what is left to read is the same from the loop's place as from its start. Assumes nothing.
-use Prim.Native.Nat.{ℕ, ◌-◌, ◌≤◌}
-use mathlib.Core.Path.{◌≡◌, refl, sym, ap, ◌∙◌}
+use Prim.Native.Nat.{ℕ}
+use mathlib.Core.Path.{refl, sym, ap, ◌∙◌}
 use borrow.Author.Rules.{rules}
 use native.Mathlib.Nat.{sub-zero}
 use native.Mathlib.Omega.{arith}
-use lib.ListN.{length}
 use Rattle.test_rows.specs.Bytes.{word_at, laid}
 use Rattle.test_rows.proofs.Laying.{laid_step, laid_end}
 use Rattle.test_rows.proofs.read_words.Goals as goal

@@ -1,6 +1,5 @@
 -- `skip`: the position never passes the end. The measure is how many numbers are left. Assumes nothing.
 use Prim.Native.Nat.{◌-◌, ◌≤◌}
-use borrow.Author.Rules.{rules}
 use lib.ListN.{length}
 use Rattle.test_rows.proofs.skip.Given as goal
 

@@ -1,9 +1,5 @@
 -- `begins_with`: everything before `i` was seen to be the text's. The measure is what is left of the text. Assumes nothing.
 use Prim.Native.Nat.{◌-◌, ◌≤◌}
-use mathlib.Core.Bool.{false≢true}
-use borrow.Author.Count.{below_more}
-use borrow.Author.Rules.{rules}
-use native.Mathlib.Omega.{arith}
 use lib.ListN.{length}
 use Rattle.test_rows.specs.Bytes.{Alike}
 use Rattle.test_rows.proofs.compare.begins_with.Given as goal

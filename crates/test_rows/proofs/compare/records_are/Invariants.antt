@@ -1,10 +1,5 @@
 -- `records_are`: every record before `i` was seen to hold x twice. The measure is what is left of the work area. Assumes nothing.
 use Prim.Native.Nat.{◌-◌}
-use mathlib.Core.Path.{sym, ◌∙◌}
-use mathlib.Core.Bool.{false≢true}
-use borrow.Author.Count.{below_none, below_more}
-use borrow.Author.Rules.{rules}
-use native.Mathlib.Omega.{arith}
 use lib.ListN.{length}
 use Rattle.test_rows.specs.Bytes.{Twice}
 use Rattle.test_rows.proofs.compare.records_are.Given as goal

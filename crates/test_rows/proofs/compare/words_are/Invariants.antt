@@ -1,9 +1,5 @@
 -- `words_are`: everything before `i` was seen to be x. The measure is what is left of the slice. Assumes nothing.
 use Prim.Native.Nat.{◌-◌}
-use mathlib.Core.Bool.{false≢true}
-use borrow.Author.Count.{below_more}
-use borrow.Author.Rules.{rules}
-use native.Mathlib.Omega.{arith}
 use lib.ListN.{length}
 use Rattle.test_rows.specs.Bytes.{Are}
 use Rattle.test_rows.proofs.compare.words_are.Given as goal

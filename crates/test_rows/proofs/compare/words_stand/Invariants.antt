@@ -1,13 +1,8 @@
 -- `words_stand`: laying what is left from the loop's place is laying all. The measure is what is left of the slice. Assumes nothing.
-use Prim.Native.Nat.{ℕ, ◌-◌, ◌≤◌}
-use mathlib.Core.Path.{◌≡◌, sym, ap, ◌∙◌}
-use mathlib.Core.Bool.{false≢true}
-use native.Mathlib.Nat.{sub-zero}
-use native.Mathlib.Omega.{arith}
-use borrow.Author.Rules.{rules}
+use Prim.Native.Nat.{◌-◌, ◌≤◌}
+use mathlib.Core.Path.{◌≡◌}
 use lib.ListN.{length}
 use Rattle.test_rows.specs.Bytes.{word_at, laid}
-use Rattle.test_rows.proofs.Laying.{laid_same, laid_out_lem, laid_end}
 use Rattle.test_rows.proofs.compare.words_stand.Given as goal
 
 abbrev pub invariant-loop-i : goal.invariant-loop-i
