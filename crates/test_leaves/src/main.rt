@@ -5,8 +5,11 @@ mod nodes;
 mod show;
 mod words;
 
-fn main() {
-    words::all();
-    names::all();
-    nodes::all();
+use std::io;
+
+fn main(rt: HostRuntime) -> io::Result<()> {
+    let mut out = io::writer(&rt);
+    words::all(&mut out)?;
+    names::all(&mut out)?;
+    nodes::all(&mut out)
 }
