@@ -1,95 +1,105 @@
 #![tactic(auto)]
 // Prints what the prover says of a house file: the file that the first argument names, or standard input where there is none.
-ghost use Rattle.std.specs.Prelude.{◌≤◌, ◌≡◌, length};
+ghost use Rattle.std.specs.Prelude.{◌≡◌, ◌≤◌, OnOk, length};
+ghost use Rattle.std.specs.Io.KnownBytes.{Appends};
 ghost use Rattle.theory.specs.File.{printed};
 ghost use Rattle.quaysaffron.specs.Reading.{Grown};
 
-use libc::{STDIN_FILENO, STDOUT_FILENO};
-
-// What reading came to.
-#[derive(Clone, Copy)]
-enum Input {
-    // so many bytes stand at the front of the buffer
-    Bytes(usize),
-    // the system refused
-    Failed,
-}
+use std::env::{Env, FillError};
+use std::io::{Read, Write};
+use std::process::ExitCode;
+use std::{fs, io, str};
 
 // Reads once, behind the `done` bytes that were read before, and leaves these; no byte more is the end of the input.
-fn read_more(fd: i32, buf: &mut [u8], done: usize) -> Input
+fn read_more<R: Read>(from: &mut R, buf: &mut [u8], done: usize) -> io::Result<usize>
     requires { done ≤ length buf.old }
     ensures { Grown done buf.old result buf.new }
 {
-    let got = libc::read(fd, &mut buf[done..]);
-    if got < 0 {
-        return Input::Failed;
-    }
-    Input::Bytes(done + io::count(got, &buf[done..]))
+    let got = from.read(&mut buf[done..])?;
+    Ok(done + got)
 }
 
-// Reads until the input ends or the buffer is full: a pipe hands its bytes over in pieces. Which bytes these are, the contract of a read
-// does not say. So this one is stated for a buffer with `start` bytes in it, which every turn of the loop must leave.
-fn read_rest(fd: i32, buf: &mut [u8], start: usize) -> Input
+// Reads until the input ends or the buffer is full: a pipe hands its bytes over in pieces. It is stated for a buffer with `start` bytes in
+// it, which every turn of the loop must leave.
+fn read_rest<R: Read>(from: &mut R, buf: &mut [u8], start: usize) -> io::Result<usize>
     requires { start ≤ length buf.old }
     ensures { Grown start buf.old result buf.new }
 {
     let mut done = start;
     while done < buf.len() {
-        let piece = read_more(fd, buf, done);
-        let Input::Bytes(all) = piece else {
-            return Input::Failed;
-        };
+        let all = read_more(from, buf, done)?;
         if all == done {
-            return piece;
+            break;
         }
         done = all;
     }
-    Input::Bytes(done)
+    Ok(done)
 }
 
-// Writes lines to standard output. Only the contract looks at `file`: they are its lines.
-fn write_lines(lines: &[u8], file: &[u8])
+// Writes lines to the output. Only the contract looks at `file`: they are its lines.
+fn write_lines<W: Write>(out: &mut W, lines: &[u8], file: &[u8]) -> io::Result<()>
     requires { lines.now ≡ printed file.now }
+    ensures { OnOk result (Appends (W.contents out.old) (W.contents out.new) (printed file.now)) }
 {
-    if !io::write_all(STDOUT_FILENO, lines) {
-        os::fail(b"standard output");
-    }
+    out.write_all(lines)
 }
 
-fn print(file: &[u8]) {
-    let mut out = [0u8; house_file::OUTPUT_BYTES];
-    let n = house_file::output(file, &mut out);
-    write_lines(&out[..n], file);
+fn print<W: Write>(out: &mut W, file: &[u8]) -> io::Result<()>
+    ensures { OnOk result (Appends (W.contents out.old) (W.contents out.new) (printed file.now)) }
+{
+    let mut lines = [0u8; house_file::OUTPUT_BYTES];
+    let n = house_file::output(file, &mut lines);
+    write_lines(out, &lines[..n], file)
 }
 
 // A byte more than a house file may have, which is enough to know that it has too many.
 const MOST_READ: usize = 32769;
 
-fn answer(fd: i32, name: &[u8]) {
+// Which of the two the system refused.
+#[derive(Drop)]
+enum Failure {
+    Reading(io::Error),
+    Writing(io::Error),
+}
+
+fn answer<R: Read, W: Write>(from: &mut R, out: &mut W) -> Result<(), Failure> {
     let mut file = [0u8; MOST_READ];
-    let input = read_rest(fd, &mut file, 0);
-    match input {
-        Input::Bytes(n) => print(&file[..n]),
-        Input::Failed => os::fail(name),
+    match read_rest(from, &mut file, 0) {
+        Ok(n) => print(out, &file[..n]).map_err(Failure::Writing),
+        Err(error) => Err(Failure::Reading(error)),
     }
 }
 
-fn main() {
-    if os::arg_count() < 2 {
-        answer(STDIN_FILENO, b"standard input");
-        return;
+// Says what failed and why. That nobody listens changes no exit status.
+fn fail(rt: &impl Eprint, name: &str, error: io::Error) -> ExitCode {
+    let _ = eprintln!(rt; "{name}: {error}");
+    ExitCode::FAILURE
+}
+
+fn answer_from<R: Read>(rt: &(impl Print + Eprint), from: &mut R, name: &str) -> ExitCode {
+    match answer(from, &mut io::writer(rt)) {
+        Ok(()) => ExitCode::SUCCESS,
+        Err(Failure::Reading(error)) => fail(rt, name, error),
+        Err(Failure::Writing(error)) => fail(rt, "standard output", error),
     }
-    let mut path = io::buffer();
-    let n = os::arg(1, &mut path);
-    if os::errno() != 0 {
-        os::fail(b"the file's name");
-        return;
+}
+
+fn answer_file(rt: &HostRuntime, name: &str) -> ExitCode {
+    match fs::open(rt, name) {
+        Ok(mut file) => answer_from(rt, &mut file, name),
+        Err(error) => fail(rt, name, error),
     }
-    let fd = os::open_read(&path[..n]);
-    if fd < 0 {
-        os::fail(&path[..n]);
-        return;
+}
+
+fn main(rt: HostRuntime) -> ExitCode {
+    let mut path = [0u8; 4096];
+    let name = "the file's name";
+    match rt.arg(1, &mut path) {
+        Ok(n) => match str::from_utf8(&path[..n]) {
+            Ok(name) => answer_file(&rt, name),
+            Err(_) => fail(&rt, name, io::Error::from(io::ErrorKind::InvalidData)),
+        },
+        Err(FillError::NotPresent) => answer_from(&rt, &mut rt.stdin(), "standard input"),
+        Err(FillError::TooLong) => fail(&rt, name, io::Error::from(io::ErrorKind::InvalidFilename)),
     }
-    answer(fd, &path[..n]);
-    libc::close(fd);
 }

@@ -3,45 +3,54 @@
 //
 // A list is how it was made (a length and so many bytes), how many rows it has, and the rows. What a program adds to a row stands behind
 // the row's own numbers and before its book.
-ghost use Rattle.std.specs.Prelude.{◌≡◌};
-ghost use Rattle.io.specs.Counts.{IsPrefixLen};
+ghost use Rattle.std.specs.Prelude.{◌≡◌, ◌≤◌, IfOk, length};
 
-use libc::STDOUT_FILENO;
+use std::io::{Read, Write};
+use std::rt::Files;
+use std::{fs, io};
 
 // The longest list.
 pub const MOST_BYTES: usize = 524288;
 
 // Prints a text.
-pub fn text(t: &[u8]) {
-    io::write_all(STDOUT_FILENO, t);
+pub fn text<W: Write>(out: &mut W, t: &[u8]) -> io::Result<()> {
+    out.write_all(t)
 }
 
 // Prints a number behind its name.
-pub fn number(name: &[u8], n: usize) {
-    text(name);
-    io::print_decimal(STDOUT_FILENO, n as u64);
+pub fn number<W: Write>(out: &mut W, name: &[u8], n: usize) -> io::Result<()> {
+    text(out, name)?;
+    write!(out, "{n}")
 }
 
-// Reads the file `list` and returns how many bytes it has; none where it can't be opened, and then that is told.
-pub fn read(list: &mut [u8]) -> usize
-    ensures { IsPrefixLen result list.new }
+// Reads until the list is full or the file ends.
+fn read_full<R: Read>(file: &mut R, list: &mut [u8]) -> io::Result<usize>
+    ensures { IfOk result (λ n. n ≤ length list.new) }
 {
-    let path = b"list";
-    let file = os::open_read(path);
-    if file < 0 {
-        os::fail(path);
-        return 0;
+    let mut done = 0;
+    while done < list.len() {
+        let n = file.read(&mut list[done..])?;
+        if n == 0 {
+            break;
+        }
+        done += n;
     }
-    let n = io::read_full(file, list);
-    libc::close(file);
-    n
+    Ok(done)
+}
+
+// Reads the file `list` and returns how many bytes it has.
+pub fn read(rt: &impl Files, list: &mut [u8]) -> io::Result<usize>
+    ensures { IfOk result (λ n. n ≤ length list.new) }
+{
+    let mut file = fs::open(rt, "list")?;
+    read_full(&mut file, list)
 }
 
 // Prints how the list was made.
-pub fn tell(list: &[u8]) {
+pub fn tell<W: Write>(out: &mut W, list: &[u8]) -> io::Result<()> {
     let made = test_rows::past(list, 0);
-    text(test_rows::part(list, made, test_rows::value(list, 0)));
-    text(b"\n");
+    text(out, test_rows::part(list, made, test_rows::value(list, 0)))?;
+    text(out, b"\n")
 }
 
 // Where the number of rows stands, behind how the list was made.

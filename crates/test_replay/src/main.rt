@@ -2,6 +2,8 @@
 // The oracle's answers: every row of the list through the public calls, and every number compared.
 mod tally;
 
+use std::io;
+use std::io::Write;
 use test_lists::{number, text};
 use test_rows::field;
 use test_runs::Answer;
@@ -55,56 +57,65 @@ fn same(list: &[u8], row: usize, answer: Answer) -> bool {
 }
 
 // Prints a row that differs.
-fn show(i: usize, answer: Answer) {
+fn show<W: Write>(out: &mut W, i: usize, answer: Answer) -> io::Result<()> {
     let call = answer.call;
-    number(b"different: row ", i);
-    number(b" gave number ", call[0]);
-    number(b", steps ", call[3]);
-    number(b", text of ", answer.length);
-    text(b"\n");
+    number(out, b"different: row ", i)?;
+    number(out, b" gave number ", call[0])?;
+    number(out, b", steps ", call[3])?;
+    number(out, b", text of ", answer.length)?;
+    text(out, b"\n")
 }
 
 // Runs a row, counts its answer, and tells whether it is the expected one.
-fn runs_equal(list: &[u8], row: usize, book: usize, i: usize, tally: &mut [usize]) -> bool {
+fn runs_equal<W: Write>(
+    out: &mut W,
+    list: &[u8],
+    row: usize,
+    book: usize,
+    i: usize,
+    tally: &mut [usize],
+) -> io::Result<bool> {
     let mut space = [test_runs::junk(list, row); test_runs::MOST_TEXT];
     let answer = test_runs::run(list, row, book, &mut space);
     let call = answer.call;
     let asked = test_runs::kind(list, row);
     tally::count(tally, tally::kind(asked, call[0], answer.writer, call[6]));
     if same(list, row, answer) {
-        return true;
+        return Ok(true);
     }
     if tally::of(tally, tally::DIFFERENT) < SHOWN {
-        show(i, answer);
+        show(out, i, answer)?;
     }
-    false
+    Ok(false)
 }
 
 // Runs every row, and counts those that are as expected and those that are not.
-fn all(list: &[u8], tally: &mut [usize]) {
+fn all<W: Write>(out: &mut W, list: &[u8], tally: &mut [usize]) -> io::Result<()> {
     let count = test_lists::count(list);
     let mut row = test_lists::start(list);
     let mut i = 0;
     while i < count {
         row = test_lists::step(list, row, behind(list, row.next));
-        let equal = runs_equal(list, row.at, row.book, i, tally);
+        let equal = runs_equal(out, list, row.at, row.book, i, tally)?;
         tally::judge(tally, equal);
         i += 1;
     }
+    Ok(())
 }
 
 // How the list was made, and the counts of what its rows gave.
-fn replay(list: &[u8]) {
+fn replay<W: Write>(out: &mut W, list: &[u8]) -> io::Result<()> {
     let mut tally = [0usize; tally::KINDS];
-    test_lists::tell(list);
-    all(list, &mut tally);
-    tally::show(&tally);
+    test_lists::tell(out, list)?;
+    all(out, list, &mut tally)?;
+    tally::show(out, &tally)
 }
 
-fn main() {
+fn main(rt: HostRuntime) -> io::Result<()> {
     let mut list = [0u8; test_lists::MOST_BYTES];
-    let n = test_lists::read(&mut list);
+    let n = test_lists::read(&rt, &mut list)?;
     if 0 < n {
-        replay(&list[..n]);
+        replay(&mut io::writer(&rt), &list[..n])?;
     }
+    Ok(())
 }

@@ -1,5 +1,7 @@
 // Counts of what came back: the proofs, the table's numbers, the claims without a proof, the files that are not refused, the statuses with
 // a verdict, and the rows that are as expected or not.
+use std::io;
+use std::io::Write;
 use test_lists::{number, text};
 
 const PROVED: usize = 0;
@@ -64,30 +66,31 @@ pub fn judge(tally: &mut [usize], equal: bool) {
 }
 
 // Prints how often one number of the table came back.
-fn line(tally: &[usize], n: usize) {
-    number(b"", n);
-    number(b": ", of(tally, n));
-    text(b"\n");
+fn line<W: Write>(out: &mut W, tally: &[usize], n: usize) -> io::Result<()> {
+    number(out, b"", n)?;
+    number(out, b": ", of(tally, n))?;
+    text(out, b"\n")
 }
 
 // How often each number of the table came back.
-fn refusals(tally: &[usize]) {
+fn refusals<W: Write>(out: &mut W, tally: &[usize]) -> io::Result<()> {
     let mut n = 1;
     while n <= BAD_FILE {
-        line(tally, n);
+        line(out, tally, n)?;
         n += 1;
     }
+    Ok(())
 }
 
 // Prints all counts.
-pub fn show(tally: &[usize]) {
-    number(b"proved ", of(tally, PROVED));
-    number(b", unprovable ", of(tally, UNPROVABLE));
-    number(b", files answered ", of(tally, PRINTED));
-    number(b", statuses settled ", of(tally, SETTLED));
-    text(b"\n");
-    refusals(tally);
-    number(b"", of(tally, EQUAL));
-    number(b" equal, ", of(tally, DIFFERENT));
-    text(b" different\n");
+pub fn show<W: Write>(out: &mut W, tally: &[usize]) -> io::Result<()> {
+    number(out, b"proved ", of(tally, PROVED))?;
+    number(out, b", unprovable ", of(tally, UNPROVABLE))?;
+    number(out, b", files answered ", of(tally, PRINTED))?;
+    number(out, b", statuses settled ", of(tally, SETTLED))?;
+    text(out, b"\n")?;
+    refusals(out, tally)?;
+    number(out, b"", of(tally, EQUAL))?;
+    number(out, b" equal, ", of(tally, DIFFERENT))?;
+    text(out, b" different\n")
 }
