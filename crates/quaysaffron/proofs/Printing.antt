@@ -1,21 +1,13 @@
 -- The lines that are printed are the front part of their buffer. Assumes nothing.
-use Prim.Native.Nat.{ℕ, ◌-◌, ◌≤◌}
-use mathlib.Core.Path.{◌≡◌, ap, ap₂, sym, ◌∙◌}
-use mathlib.Core.List.{List}
-use native.Mathlib.Omega.{arith}
-use lib.ListN.{length, take, replicate, length-append}
-use lib.Seq.{length-take-le, take-append_seam}
-use Rattle.io.specs.Counts.{IsPrefixLen}
+use Rattle.std.proofs.Common.{ℕ, ◌≡◌, ◌≤◌, ◌-◌, ◌∙◌, ap, ap₂, List, length, take, replicate, arith, length-append}
+use Rattle.std.proofs.Math.Seq.{take-append_seam}
 use Rattle.theory.specs.NameText.{padded}
 
 -- a text at the front of a buffer that is padded behind it
 module _ (room : ℕ) (text : List ℕ) {buffer : List ℕ} {n : ℕ} (e : buffer ≡ padded room text) (s : n ≡ length text) where
-  pub padded_counts : IsPrefixLen n buffer
+  pub padded_inside : n ≤ length buffer
   unfolding padded
-  padded_counts =
-      let inside : n ≤ length buffer =
-      omega (arith, s, ap length e, length-append text (replicate (room - length text) 0)) in
-      (inside, sym (length-take-le n buffer inside))
+  padded_inside = omega (arith, s, ap length e, length-append text (replicate (room - length text) 0))
 
   pub padded_front : take n buffer ≡ text
   unfolding padded

@@ -1,6 +1,6 @@
 -- What reading leaves in the program's buffer. Assumes nothing.
 use Rattle.std.specs.Prelude.{ℕ, ◌≤◌, ◌≡◌, List, length, take, IfOk}
-use Rattle.core.specs.declared.result.Result.{Result}
+use Rattle.std.specs.declared.result.Result.{Result}
 
 -- what a call leaves of a buffer with `done` bytes: these as they were, whatever came of the call, and behind them what it has read, all
 -- inside the buffer

@@ -1,19 +1,23 @@
 #![tactic(auto)]
 // Prints what the prover says of a house file: the file that the first argument names, or standard input where there is none.
-ghost use Rattle.std.specs.Prelude.{◌≡◌, ◌≤◌, OnOk, length};
-ghost use Rattle.std.specs.Io.KnownBytes.{Appends};
+ghost use Rattle.std.specs.Prelude.{◌≡◌, ◌≤◌, ◌<◌, IfOk, OnOk, IfSome, length, slice_range};
+ghost use Rattle.std.specs.Io.KnownBytes.{Appends, Consumes, IsAtEnd};
 ghost use Rattle.theory.specs.File.{printed};
 ghost use Rattle.quaysaffron.specs.Reading.{Grown};
 
 use std::env::{Env, FillError};
 use std::io::{Read, Write};
 use std::process::ExitCode;
+use std::rt::Files;
 use std::{fs, io, str};
 
 // Reads once, behind the `done` bytes that were read before, and leaves these; no byte more is the end of the input.
 fn read_more<R: Read>(from: &mut R, buf: &mut [u8], done: usize) -> io::Result<usize>
     requires { done ≤ length buf.old }
-    ensures { Grown done buf.old result buf.new }
+    ensures grown { Grown done buf.old result buf.new }
+    ensures bytes { IfOk result (λ n. Consumes (R.remaining from.old) (R.remaining from.new)
+        (slice_range buf.new done n)) }
+    ensures end { IfOk result (λ n. n ≡ done → done < length buf.new → IsAtEnd (R.remaining from.new)) }
 {
     let got = from.read(&mut buf[done..])?;
     Ok(done + got)
@@ -23,7 +27,10 @@ fn read_more<R: Read>(from: &mut R, buf: &mut [u8], done: usize) -> io::Result<u
 // it, which every turn of the loop must leave.
 fn read_rest<R: Read>(from: &mut R, buf: &mut [u8], start: usize) -> io::Result<usize>
     requires { start ≤ length buf.old }
-    ensures { Grown start buf.old result buf.new }
+    ensures grown { Grown start buf.old result buf.new }
+    ensures bytes { IfOk result (λ n. Consumes (R.remaining from.old) (R.remaining from.new)
+        (slice_range buf.new start n)) }
+    ensures end { IfOk result (λ n. n < length buf.new → IsAtEnd (R.remaining from.new)) }
 {
     let mut done = start;
     while done < buf.len() {
@@ -44,6 +51,7 @@ fn write_lines<W: Write>(out: &mut W, lines: &[u8], file: &[u8]) -> io::Result<(
     out.write_all(lines)
 }
 
+// Prints what the prover says of a file.
 fn print<W: Write>(out: &mut W, file: &[u8]) -> io::Result<()>
     ensures { OnOk result (Appends (W.contents out.old) (W.contents out.new) (printed file.now)) }
 {
@@ -62,10 +70,17 @@ enum Failure {
     Writing(io::Error),
 }
 
-fn answer<R: Read, W: Write>(from: &mut R, out: &mut W) -> Result<(), Failure> {
+// Writes the lines of the file that a reader gives, however long it is.
+fn answer<R: Read, W: Write>(from: &mut R, out: &mut W) -> Result<(), Failure>
+    ensures { OnOk result (IfSome (R.remaining from.old)
+        (λ file. Appends (W.contents out.old) (W.contents out.new) (printed file))) }
+{
     let mut file = [0u8; MOST_READ];
     match read_rest(from, &mut file, 0) {
-        Ok(n) => print(out, &file[..n]).map_err(Failure::Writing),
+        Ok(n) => match print(out, &file[..n]) {
+            Ok(()) => Ok(()),
+            Err(error) => Err(Failure::Writing(error)),
+        },
         Err(error) => Err(Failure::Reading(error)),
     }
 }
@@ -84,7 +99,7 @@ fn answer_from<R: Read>(rt: &(impl Print + Eprint), from: &mut R, name: &str) ->
     }
 }
 
-fn answer_file(rt: &HostRuntime, name: &str) -> ExitCode {
+fn answer_file(rt: &(impl Files + Print + Eprint), name: &str) -> ExitCode {
     match fs::open(rt, name) {
         Ok(mut file) => answer_from(rt, &mut file, name),
         Err(error) => fail(rt, name, error),

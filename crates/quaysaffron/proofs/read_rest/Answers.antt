@@ -1,51 +1,37 @@
--- `read_rest` has read the bytes before `done`. The measure is what is left of the buffer. Assumes nothing.
-use borrow.Author.Rules.{rules}
-use Prim.Native.Nat.{◌-◌}
-use mathlib.Core.Path.{◌≡◌, refl, subst}
-use native.Mathlib.Omega.{arith}
-use lib.ListN.{length}
-use Rattle.quaysaffron.specs.Reading.{Grown}
-use Rattle.quaysaffron.specs.declared.Input.{Input}
-use Rattle.quaysaffron.specs.declared.Input.TheVariants.{Bytes}
-use Rattle.quaysaffron.proofs.Pieces.{grown_none, grown_on}
+-- `read_rest`: each turn's read goes on behind those before it. Assumes nothing.
+use Rattle.std.proofs.Common.{rules, ℕ, arith, subst, slice_range}
+use Rattle.std.specs.Io.KnownBytes.{Consumes}
+use Rattle.quaysaffron.proofs.Pieces.{kept_both, took_both}
 use Rattle.quaysaffron.proofs.read_rest.Goals as goal
-use Rattle.quaysaffron.proofs.read_rest.Goals.{In-Bytes}
-
--- what a turn's read leaves of what was there before it
-turned : (c : In-Bytes) →
-    Grown c.loop-done.done
-    c.loop-done.buf (Bytes c.in-Bytes.all)
-    c.read_more-piece.new.buf
-turned c =
-    let turn = c.loop-done in
-    subst (λ (r : Input). Grown turn.done turn.buf r c.read_more-piece.new.buf) c.in-Bytes.is
-    c.read_more-piece.ensures
-
-pub loop-done-init : goal.loop-done-init
-loop-done-init c =
-    (grown_none c.args.start c.args.buf.now c.requires, refl)
-
-pub read_more-piece-requires : goal.read_more-piece-requires
-read_more-piece-requires c =
-    omega (arith, c.loop-done.invariant.0.behind)
-
-pub returns-in_default : goal.returns-in_default
-returns-in_default c =
-    record { kept = (grown_on c.loop-done.invariant.0 c.read_more-piece.ensures).kept; behind = tt }
-
-pub returns-then-all-done : goal.returns-then-all-done
-returns-then-all-done c =
-    grown_on c.loop-done.invariant.0 (turned (goal.at.returns-then-all-done c).In-Bytes)
-
-pub loop-done-smaller : goal.loop-done-smaller
-loop-done-smaller c =
-    omega (arith, (turned (goal.at.loop-done-smaller c).In-Bytes).behind)
 
 pub loop-done-preserved : goal.loop-done-preserved
-loop-done-preserved c =
+loop-done-preserved g c =
     let turn = c.loop-done in
-    (grown_on turn.invariant.0 (turned (goal.at.loop-done-preserved c).In-Bytes), omega arith)
+    let next = c.in_ok-all.ensures in
+    record {
+      inside = omega (arith, next.grown.behind);
+      room = omega (arith, next.grown.behind);
+      long = search rules;
+      kept = kept_both c.args.start turn.done _ _ _ turn.invariant.inside turn.invariant.kept next.grown.kept;
+      bytes =
+          took_both _ _ _ c.args.start turn.done _ _ _ turn.invariant.inside next.grown.behind.0 next.grown.kept
+          turn.invariant.bytes next.bytes;
+    }
 
-pub returns : goal.returns
-returns c =
-    c.loop-done.invariant.0
+pub returns-then-all-done-clause-grown : goal.returns-then-all-done-clause-grown
+returns-then-all-done-clause-grown g c =
+    let turn = c.loop-done in
+    let next = c.in_ok-all.ensures in
+    record {
+      kept = kept_both c.args.start turn.done _ _ _ turn.invariant.inside turn.invariant.kept next.grown.kept;
+      behind = (turn.invariant.inside, omega (arith, next.grown.behind));
+    }
+
+pub returns-then-all-done-clause-bytes : goal.returns-then-all-done-clause-bytes
+returns-then-all-done-clause-bytes g c =
+    let turn = c.loop-done in
+    let next = c.in_ok-all.ensures in
+    subst (λ (n : ℕ). Consumes (g.R.Read.remaining c.args.from.now) (g.R.Read.remaining c.read_more.new.from)
+    (slice_range c.read_more.new.buf c.args.start n)) c.if-all-done.true
+    (took_both _ _ _ c.args.start turn.done _ _ _ turn.invariant.inside next.grown.behind.0 next.grown.kept
+    turn.invariant.bytes next.bytes)

@@ -1,17 +1,17 @@
 -- `read_rest` has read the bytes before `done`. The measure is what is left of the buffer. Assumes nothing.
-use borrow.Author.Rules.{rules}
-use Prim.Native.Nat.{◌-◌}
-use mathlib.Core.Path.{◌≡◌, refl, subst}
-use native.Mathlib.Omega.{arith}
-use lib.ListN.{length}
-use Rattle.quaysaffron.specs.Reading.{Grown}
-use Rattle.quaysaffron.specs.declared.Input.{Input}
-use Rattle.quaysaffron.specs.declared.Input.TheVariants.{Bytes}
-use Rattle.quaysaffron.proofs.Pieces.{grown_none, grown_on}
+use Rattle.std.proofs.Common.{length, ◌-◌, ◌≡◌, ◌≤◌}
+use Rattle.std.specs.Prelude.{take, slice_range}
+use Rattle.std.specs.Io.KnownBytes.{Consumes}
 use Rattle.quaysaffron.proofs.read_rest.Given as goal
 
 abbrev pub invariant-loop-done : goal.invariant-loop-done
-invariant-loop-done l = Grown l.start l.initial.buf (Bytes l.done) l.buf × (length l.buf ≡ length l.initial.buf)
+invariant-loop-done g l = record {
+  inside : l.start ≤ l.done;
+  room : l.done ≤ length l.buf;
+  long : length l.buf ≡ length l.initial.buf;
+  kept : take l.start l.buf ≡ take l.start l.initial.buf;
+  bytes : Consumes (g.R.Read.remaining l.initial.from) (g.R.Read.remaining l.from) (slice_range l.buf l.start l.done);
+}
 
 abbrev pub decreases-loop-done : goal.decreases-loop-done
-decreases-loop-done l = length l.initial.buf - l.done
+decreases-loop-done g l = length l.initial.buf - l.done
