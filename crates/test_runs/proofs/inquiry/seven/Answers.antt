@@ -1,6 +1,5 @@
 -- `seven`: each case of a status has its numbers. Assumes nothing.
 use mathlib.Core.Path.{sym, ap}
-use borrow.Author.Rules.{rules}
 use Rattle.test_runs.specs.Seven.{told}
 use Rattle.test_runs.proofs.inquiry.seven.Goals as goal
 

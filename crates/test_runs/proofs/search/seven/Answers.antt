@@ -1,6 +1,5 @@
 -- `seven`: each case of an outcome has its numbers. Assumes nothing.
 use mathlib.Core.Path.{sym, ap}
-use borrow.Author.Rules.{rules}
 use Rattle.call.specs.declared.Outcome.{Outcome}
 use Rattle.call.specs.Outcomes.{numbers_of}
 use Rattle.test_runs.specs.Seven.{seven}

@@ -1,6 +1,5 @@
 -- `checksum`: both sums stay below 65,521. The measure is how many bytes are left. Assumes nothing.
 use Prim.Native.Nat.{◌-◌, ◌≤◌, ◌<◌}
-use borrow.Author.Rules.{rules}
 use lib.ListN.{length}
 use Rattle.test_runs.proofs.writer.checksum.Given as goal
 

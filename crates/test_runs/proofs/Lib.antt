@@ -1,1 +1,0 @@
--- What the proofs of `runs` stand on. Assumes nothing.
