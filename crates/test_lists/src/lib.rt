@@ -3,7 +3,8 @@
 //
 // A list is how it was made (a length and so many bytes), how many rows it has, and the rows. What a program adds to a row stands behind
 // the row's own numbers and before its book.
-ghost use Rattle.std.specs.Prelude.{◌≡◌, ◌≤◌, IfOk, length};
+ghost use Rattle.std.specs.Prelude.{◌≡◌};
+ghost use Rattle.std.specs.Io.{ReadsAtMost};
 
 use std::io::{Read, Write};
 use std::rt::Files;
@@ -25,7 +26,7 @@ pub fn number<W: Write>(out: &mut W, name: &[u8], n: usize) -> io::Result<()> {
 
 // Reads until the list is full or the file ends.
 fn read_full<R: Read>(file: &mut R, list: &mut [u8]) -> io::Result<usize>
-    ensures { IfOk result (λ n. n ≤ length list.new) }
+    ensures { ReadsAtMost result list.new }
 {
     let mut done = 0;
     while done < list.len() {
@@ -40,7 +41,7 @@ fn read_full<R: Read>(file: &mut R, list: &mut [u8]) -> io::Result<usize>
 
 // Reads the file `list` and returns how many bytes it has.
 pub fn read(rt: &impl Files, list: &mut [u8]) -> io::Result<usize>
-    ensures { IfOk result (λ n. n ≤ length list.new) }
+    ensures { ReadsAtMost result list.new }
 {
     let mut file = fs::open(rt, "list")?;
     read_full(&mut file, list)
