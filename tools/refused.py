@@ -61,6 +61,19 @@ def functions_of(lines):
     return [found.group(1) for text in lines if (found := re.match(r'\s*(?:pub(?:\([^)]*\))? )?(?:extern "C" )?fn (\w+)', text))]
 
 
+def function_at(lines, line):
+    """The function in which a line of a source stands, its attributes included; None where it stands before any.
+
+    >>> function_at(['fn f() {', '    0', '}', '#[unsafe(no_mangle)]', 'pub extern "C" fn g() {', '}'], 2)
+    'f'
+    >>> function_at(['fn f() {', '    0', '}', '#[unsafe(no_mangle)]', 'pub extern "C" fn g() {', '}'], 4)
+    'g'
+    """
+    while line < len(lines) and lines[line - 1].lstrip().startswith('#['):
+        line += 1
+    return (functions_of(lines[:line]) or [None])[-1]
+
+
 def place(crate, said):
     """The place that the first thing said of an edit names; None where it names none. An edit changes no number of a line."""
     error, unproved = ERROR.match(said), UNPROVED.match(said)
@@ -69,10 +82,10 @@ def place(crate, said):
         what += '' if unproved.group(4) else '..'
     folder = ROOT / 'crates' / crate
     sources = {it.relative_to(folder).as_posix(): it.read_text().splitlines() for it in folder.glob('src/**/*.rt')}
-    if path in sources:
-        # the function in which the line stands, whose name a cycle's goal begins with
-        before = functions_of(sources[path][:int(line)])
-        return ': '.join([before[-1]] + [what.removeprefix(before[-1] + '-')] * bool(what)) if before else room(path, None, [])
+    function = path in sources and function_at(sources[path], int(line))
+    if function:
+        # a cycle's goal begins with its function's name
+        return function + (': ' + what.removeprefix(function + '-') if what else '')
     return path and room(path, what, [name for lines in sources.values() for name in functions_of(lines)])
 
 
