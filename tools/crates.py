@@ -11,7 +11,7 @@ import re
 import sys
 
 ROOT = pathlib.Path(__file__).resolve().parent.parent
-LIBRARIES = ('bytes', 'check', 'io', 'libc', 'os', 'std')
+LIBRARIES = ('bytes', 'check', 'io', 'std')
 TEST = 'test_'
 
 HEAD = """# Crates
