@@ -93,7 +93,7 @@ class Answers(InFolder):
         self.assertEqual(ran("-", input=b""), (0, "refused 14\n", told))
 
     def test_names_of_files(self):
-        names = ["a b", "-x", "--help", "-", "it's \"so\"", "* ?", "$(touch x)`", "a\nb", "\\n%s", "ä"]
+        names = ["a b", "-x", "--help", "-", "it's \"so\"", "* ?", "$(touch x)`", "a\nb", "\\n%s", "ä", os.fsdecode(b"\xff")]
         with open(WHOLE, "rb") as source:
             whole = source.read()
         for name in names:

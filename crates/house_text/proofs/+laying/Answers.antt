@@ -122,7 +122,7 @@ lay_term-slice_bounds-lay-end-2 t c =
 
 pub lay_term-overflow_add-node-2 : goal.lay_term-overflow_add-node-2
 lay_term-overflow_add-node-2 t c =
-    omega (arith, c.requires.1, c.type_inv)
+    omega (arith, c.requires.1)
 
 pub lay_term-lay_field-first-requires : goal.lay_term-lay_field-first-requires
 lay_term-lay_field-first-requires t c =
@@ -134,7 +134,7 @@ lay_term-lay_field-first-requires t c =
 
 pub lay_term-overflow_add-node-3 : goal.lay_term-overflow_add-node-3
 lay_term-overflow_add-node-3 t c =
-    omega (arith, c.requires.1, c.type_inv)
+    omega (arith, c.requires.1)
 
 pub lay_term-lay_field-second-requires : goal.lay_term-lay_field-second-requires
 lay_term-lay_field-second-requires t c =
@@ -146,7 +146,7 @@ lay_term-lay_field-second-requires t c =
 
 pub lay_term-overflow_add-node-4 : goal.lay_term-overflow_add-node-4
 lay_term-overflow_add-node-4 t c =
-    omega (arith, c.requires.1, c.type_inv)
+    omega (arith, c.requires.1)
 
 pub lay_term-lay_field-third-requires : goal.lay_term-lay_field-third-requires
 lay_term-lay_field-third-requires t c =
@@ -158,7 +158,7 @@ lay_term-lay_field-third-requires t c =
 
 pub lay_term-overflow_add-node-5 : goal.lay_term-overflow_add-node-5
 lay_term-overflow_add-node-5 t c =
-    omega (arith, c.requires.1, c.type_inv)
+    omega (arith, c.requires.1)
 
 pub lay_term-lay_field-fourth-requires : goal.lay_term-lay_field-fourth-requires
 lay_term-lay_field-fourth-requires t c =
@@ -170,7 +170,7 @@ lay_term-lay_field-fourth-requires t c =
 
 pub lay_term-overflow_add-node-6 : goal.lay_term-overflow_add-node-6
 lay_term-overflow_add-node-6 t c =
-    omega (arith, c.requires.1, c.type_inv)
+    omega (arith, c.requires.1)
 
 pub lay_term-lay_field-fifth-requires : goal.lay_term-lay_field-fifth-requires
 lay_term-lay_field-fifth-requires t c =

@@ -33,7 +33,6 @@ overflow_mul-numbers c =
       numbers_there
           (draft c.args.words.now c.args.count c.args.assumptions c.args.names.now c.args.terms.now c.args.nodes c.args.root
           c.args.buf.now) (passed c),
-      c.type_inv,
     )
 
 pub slice_bounds-write_term-end : goal.slice_bounds-write_term-end
