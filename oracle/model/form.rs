@@ -70,7 +70,7 @@ pub fn good_word(before: &[usize], w: usize) -> bool {
     laid_out(before.len(), w) && !clashes(before, shape(w))
 }
 
-/// Form.antt's badFrom is this search for the lowest.
+/// Form.antt's bad_from is this search for the lowest.
 pub fn bad_word(ws: &[usize]) -> Option<usize> {
     (0..ws.len()).find(|i| !good_word(&ws[..*i], ws[*i]))
 }

@@ -136,7 +136,7 @@ pub fn term_text(s: &Search, i: usize, out: &mut Vec<u8>) {
     }
 }
 
-/// `Layout.badTerm` never refuses what the search made; here it is looked at, with the layout of the made words.
+/// `Layout.bad_term` never refuses what the search made; here it is looked at, with the layout of the made words.
 pub fn lawful(s: &Search, root: usize, free: bool) -> bool {
     let word = |(i, w): (usize, &Shape)| match *w {
         And(a, b) | Or(a, b) | Imp(a, b) => a < i && b < i,

@@ -73,16 +73,16 @@ pub record Settled (n m goal : ℕ) (bs : List ℕ) (o : Outcome) (f t text : Li
 -- the arrays as the sections filled them, and the answer to the claim that they make
 module _ (n m goal : ℕ) (bs : List ℕ) (zeros words indices₀ indices names₀ names : List ℕ) (size : ℕ) (terms f t : List ℕ) (o : Outcome)
     (seen : Seen n m bs) (empty : zeros ≡ replicate 4096 0) (none_yet : terms ≡ replicate 24576 0)
-    (laid-words : words ≡ laid_over (numbers_from 4 n (drop 2 bs)) zeros)
-    (laid-indices : indices ≡ laid_over (indices_from m (drop (4 + 4 * n) bs)) indices₀)
-    (laid-names : names ≡ laid_over (text_from m (drop (4 + 4 * n) bs)) names₀)
+    (laid_words : words ≡ laid_over (numbers_from 4 n (drop 2 bs)) zeros)
+    (laid_indices : indices ≡ laid_over (indices_from m (drop (4 + 4 * n) bs)) indices₀)
+    (laid_names : names ≡ laid_over (text_from m (drop (4 + 4 * n) bs)) names₀)
     (sized : size ≡ length (text_from m (drop (4 + 4 * n) bs))) where
   pub settled : Answers (claim_of words n (take m indices) (take size names) goal terms 16384 1000000) o f t →
       Settled n m goal bs o f t (take size names)
   settled a =
-      let text = laid_front size (text_from m (drop (4 + 4 * n) bs)) names₀ names laid-names sized in
-      let same = claim_is n m goal bs words (take m indices) (take size names) terms zeros laid-words empty
-      (laid_front m (indices_from m (drop (4 + 4 * n) bs)) indices₀ indices laid-indices (sym (indices_many m (drop (4 + 4 * n) bs))))
+      let text = laid_front size (text_from m (drop (4 + 4 * n) bs)) names₀ names laid_names sized in
+      let same = claim_is n m goal bs words (take m indices) (take size names) terms zeros laid_words empty
+      (laid_front m (indices_from m (drop (4 + 4 * n) bs)) indices₀ indices laid_indices (sym (indices_many m (drop (4 + 4 * n) bs))))
       text none_yet in
       let b = subst (λ (x : Claim). Answers x o f t) same a in
       record {

@@ -55,13 +55,13 @@ module _ (x : Draft) where
   unfolding written not_written number_in place_in
   refused_hands none e n = absurd (n refl)
   refused_hands (some r) e n =
-      let as-refused : by_refusal (some r) ≡ written x = ap by_refusal e in (
+      let as_refused : by_refusal (some r) ≡ written x = ap by_refusal e in (
         record {
-          size_is = ap (λ (w : Written). length w.part) as-refused;
-          number_is = ap (λ (w : Written). w.number) as-refused;
-          buffer_is = ap (λ (w : Written). w.buffer) as-refused;
+          size_is = ap (λ (w : Written). length w.part) as_refused;
+          number_is = ap (λ (w : Written). w.number) as_refused;
+          buffer_is = ap (λ (w : Written). w.buffer) as_refused;
         },
-        ap (λ (w : Written). w.place) as-refused,
+        ap (λ (w : Written). w.place) as_refused,
       )
 
   module _ (passed : writer_refusal x ≡ none) where

@@ -131,14 +131,14 @@ module _ {words : List ℕ} {i k l : ℕ} (w : WordRead words i k l) where
         Whole p (suc (levels - 1)) (shape_depth (depth_at words) (shape_of k l right)) (shape_text (text_at words) (shape_of k l right)) →
         p ≡ form_piece words levels i
     unfolding form_piece
-    by_shape {p} whole-piece =
+    by_shape {p} whole_piece =
         let s : Shape = shape_of k l right in
         let more : suc (levels - 1) ≡ levels = omega arith in
         let depth : shape_depth (depth_at words) s ≡ depth_at words i =
         sym (depth_by_shape (book words) w.words_good.good i in_book ∙ ap (shape_depth (depth_at words)) seen) in
         let text : shape_text (text_at words) s ≡ text_at words i =
         sym (text_by_shape (book words) w.words_good.good i in_book ∙ ap (shape_text (text_at words)) seen) in
-        whole-piece.is ∙ ap (λ (n : ℕ). up_to n (shape_depth (depth_at words) s) (shape_text (text_at words) s)) more
+        whole_piece.is ∙ ap (λ (n : ℕ). up_to n (shape_depth (depth_at words) s) (shape_text (text_at words) s)) more
         ∙ ap₂ (up_to levels) depth text
 
     -- a word with no halves

@@ -10,7 +10,7 @@ use Rattle.theory.specs.Names.{bytes_of}
 use Rattle.theory.specs.Layout.{node_width, Field, name, child, formula, unused, fields_of, piece_of, piece_at, nodes_from, nodes_in}
 use Rattle.theory.specs.Text.{bytes}
 use Rattle.theory.proofs.TextByNode.{piece_text, piece_depth, text_by_node, depth_by_node, node_at, node_in}
-use Rattle.proof_term.specs.declared.Field as declared-field
+use Rattle.proof_term.specs.declared.Field as declared_field
 use Rattle.proof_term.specs.declared.Fields.{Fields}
 use Rattle.proof_term.specs.declared.Fields.TheVariants.{Held, Refused}
 use Rattle.proof_term.specs.Kinds.{field_as, fields_as, keyword, word, word_as, Settles}
@@ -93,15 +93,15 @@ module _ {words terms : List ℕ} {i k : ℕ} (n : NodeRead words terms i k) {a 
         let kind : k ≡ get_or terms (i * node_width) 0 = n.kind in
         node_at terms (length terms / node_width) i n.inside ∙ cc (number 1, number 2, number 3, number 4, number 5)
 
-    abbrev Below : declared-field.Field → ℕ → Type 0
+    abbrev Below : declared_field.Field → ℕ → Type 0
     Below f x = (weight (field_as f) x < i + i + 1) × FieldIn (length words) (length terms / node_width) (field_as f) x
 
     -- the fields of a node lie below it
-    pub fields_below : {r : Fields} {start end : ℕ} {p q u v w : declared-field.Field} → Settles r k → r ≡ Held start end p q u v w →
+    pub fields_below : {r : Fields} {start end : ℕ} {p q u v w : declared_field.Field} → Settles r k → r ≡ Held start end p q u v w →
         Below p a × Below q b × Below u c × Below v d × Below w e
     fields_below {r} {start} {end} {p} {q} {u} {v} {w} h s =
         let m : ℕ = length words in
-        let falls : (f : declared-field.Field) (x : ℕ) → FieldIn m i (field_as f) x → Below f x =
+        let falls : (f : declared_field.Field) (x : ℕ) → FieldIn m i (field_as f) x → Below f x =
         λ f x. field_falls m i (length terms / node_width) (field_as f) x n.inside in
         let here : NodeIn m i (piece_of k a b c d e) = subst (NodeIn m i) seen (node_in m (nodes terms) n.given.lawful i in_nodes) in
         let f : FieldsIn m i (field_as p ∷ field_as q ∷ field_as u ∷ field_as v ∷ field_as w ∷ []) (a ∷ b ∷ c ∷ d ∷ e ∷ []) =
@@ -141,10 +141,10 @@ module _ {words terms : List ℕ} {i k : ℕ} (n : NodeRead words terms i k) {a 
       refused_piece h s = decided_piece none (keyword k) (sym h.layout ∙ ap fields_as s) refl
 
       -- a field of the node
-      abbrev held : declared-field.Field → ℕ → Option (List ℕ)
+      abbrev held : declared_field.Field → ℕ → Option (List ℕ)
       held f x = field_piece words terms names (levels - 1) (field_as f) x
 
-      module _ {r : Fields} {start end : ℕ} {p q u v w : declared-field.Field} (h : Settles r k) (s : r ≡ Held start end p q u v w) where
+      module _ {r : Fields} {start end : ℕ} {p q u v w : declared_field.Field} (h : Settles r k) (s : r ≡ Held start end p q u v w) where
         abbrev fields : List Field
         fields = field_as p ∷ field_as q ∷ field_as u ∷ field_as v ∷ field_as w ∷ []
 
@@ -163,14 +163,14 @@ module _ {words terms : List ℕ} {i k : ℕ} (n : NodeRead words terms i k) {a 
             ∙ decided_piece (some fields) (word start end) (sym h.layout ∙ ap fields_as s) (sym h.printing ∙ ap word_as s)
 
 -- what is known of a field is known of the one that the match found, at the number that was read
-pub field_told : (m n : ℕ) {x y : ℕ} {f h : declared-field.Field} → f ≡ h → x ≡ y → FieldIn m n (field_as f) y → FieldIn m n (field_as h) x
+pub field_told : (m n : ℕ) {x y : ℕ} {f h : declared_field.Field} → f ≡ h → x ≡ y → FieldIn m n (field_as f) y → FieldIn m n (field_as h) x
 field_told m n {x} {y} {f} {h} e r g =
-    subst (λ (k : declared-field.Field). FieldIn m n (field_as k) x) e (subst (FieldIn m n (field_as f)) (sym r) g)
+    subst (λ (k : declared_field.Field). FieldIn m n (field_as k) x) e (subst (FieldIn m n (field_as f)) (sym r) g)
 
-pub weight_told : {x y : ℕ} {f h : declared-field.Field} → f ≡ h → x ≡ y → weight (field_as h) x ≡ weight (field_as f) y
-weight_told e r = ap₂ (λ (k : declared-field.Field) (n : ℕ). weight (field_as k) n) (sym e) r
+pub weight_told : {x y : ℕ} {f h : declared_field.Field} → f ≡ h → x ≡ y → weight (field_as h) x ≡ weight (field_as f) y
+weight_told e r = ap₂ (λ (k : declared_field.Field) (n : ℕ). weight (field_as k) n) (sym e) r
 
-pub piece_told : (words terms : List ℕ) (names : List (List ℕ)) (levels : ℕ) {x y : ℕ} {f h : declared-field.Field} → f ≡ h → x ≡ y →
+pub piece_told : (words terms : List ℕ) (names : List (List ℕ)) (levels : ℕ) {x y : ℕ} {f h : declared_field.Field} → f ≡ h → x ≡ y →
     field_piece words terms names levels (field_as h) x ≡ field_piece words terms names levels (field_as f) y
 piece_told words terms names levels e r =
-    ap₂ (λ (k : declared-field.Field) (n : ℕ). field_piece words terms names levels (field_as k) n) (sym e) r
+    ap₂ (λ (k : declared_field.Field) (n : ℕ). field_piece words terms names levels (field_as k) n) (sym e) r

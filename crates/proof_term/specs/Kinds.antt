@@ -4,12 +4,12 @@ use Rattle.std.proofs.Math.Option.{Option, none, some}
 use Rattle.theory.specs.Layout as layout
 use Rattle.theory.specs.Layout.{fields_of}
 use Rattle.theory.specs.Text.{bytes}
-use Rattle.proof_term.specs.declared.Field as declared-field
+use Rattle.proof_term.specs.declared.Field as declared_field
 use Rattle.proof_term.specs.declared.Field.TheVariants.{Name, Child, Formula, Unused}
 use Rattle.proof_term.specs.declared.Fields.{Fields}
 use Rattle.proof_term.specs.declared.Fields.TheVariants.{Held, Refused}
 
-abbrev pub field_as : declared-field.Field → layout.Field
+abbrev pub field_as : declared_field.Field → layout.Field
 field_as Name = layout.name
 field_as Child = layout.child
 field_as Formula = layout.formula

@@ -63,20 +63,20 @@ module _ {m : Limits} {nf nt l : ℕ} {w0 w : List Rec} {q : Sequent} {us : List
       omega (arith, x.room, ap length e ∙ length-set w i (rec a t)),
     )
 
-    module _ (a t : ℕ) (a_in : a < nf) (t-in : t < nt) (few : (nf ≤ 65536) × (nt ≤ 65536)) (free : q.unordered + q.ordered < stretch)
+    module _ (a t : ℕ) (a_in : a < nf) (t_in : t < nt) (few : (nf ≤ 65536) × (nt ≤ 65536)) (free : q.unordered + q.ordered < stretch)
         (lv : l ≤ q.level) {w1 : List Rec} {q1 : Sequent} where
       pub area_push : w1 ≡ set w (push_place q) (rec a t) → q1 ≡ pushed q → Area m nf nt l w0 w1 q1 us (entry a t ∷ os)
       area_push ew eq = let o = stored (push_place q) a t ew (omega arith) in record {
         same = o.0;
         room = o.1;
-        seats = seats_push x.seats x.room a t a_in t-in few free ew eq;
+        seats = seats_push x.seats x.room a t a_in t_in few free ew eq;
       }
 
       pub area_append : w1 ≡ set w (append_place q) (rec a t) → q1 ≡ appended q → Area m nf nt l w0 w1 q1 (us ++ (entry a t ∷ [])) os
       area_append ew eq = let o = stored (append_place q) a t ew (omega arith) in record {
         same = o.0;
         room = o.1;
-        seats = seats_append x.seats x.room a t a_in t-in few free ew eq;
+        seats = seats_append x.seats x.room a t a_in t_in few free ew eq;
       }
 
     -- the records in use a level up

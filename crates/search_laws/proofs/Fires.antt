@@ -56,7 +56,7 @@ module _ (f : List ℕ) (nf : ℕ) (laid : Laid f nf) (long : nf ≤ length f) w
       subst (λ (n : ℕ). Below n (is_imp (left_at f a) (right_at f a))) (length-take-le a f (omega arith))
       (subst (Below (length (take a f))) (shape_as f a five) (word_below (take a f) (get_or f a 0) (laid a h)))
 
-  module _ (w : List Rec) (l n : ℕ) (inside : (i : ℕ) → i < n → formula_at w (l * stretch + i) < nf) (i : ℕ) (in-i : i < n) where
+  module _ (w : List Rec) (l n : ℕ) (inside : (i : ℕ) → i < n → formula_at w (l * stretch + i) < nf) (i : ℕ) (in_i : i < n) where
     pub fires_as : fire_shape (book f nf) (unordered_in w l n) (look (book f nf) (formula_at w (l * stretch + i))) ≡
         yields (right_at f (formula_at w (l * stretch + i))) (term_in w l n (fires_by f w l n i))
     unfolding fires_by shape_of fire_shape shape_at shape
@@ -75,14 +75,14 @@ module _ (f : List ℕ) (nf : ℕ) (laid : Laid f nf) (long : nf ≤ length f) w
             yields (right_at f a) (term_in w l n (elim t [ true ↦ leaf_place f w l n (get_or f (left_at f a) 0) | false ↦ n ]))
         go true p =
             let five : kind_at f a ≡ 5 = eqb-true (kind_at f a) 5 p in
-            let small : left_at f a < nf = omega (arith, parts_in a (inside i in-i) five, inside i in-i) in
-            ap (fire_shape ws us) (book_at f nf a (inside i in-i) ∙ shape_as f a five)
+            let small : left_at f a < nf = omega (arith, parts_in a (inside i in_i) five, inside i in_i) in
+            ap (fire_shape ws us) (book_at f nf a (inside i in_i) ∙ shape_as f a five)
             ∙ ap (fire_leaf ws us (right_at f a)) (book_at f nf (left_at f a) small)
             ∙ by_leaf ws us (right_at f a) (shape (get_or f (left_at f a) 0))
             ∙ ap (yields (right_at f a))
             (leaf_place_lem f nf laid w l n inside (take (left_at f a) f) (get_or f (left_at f a) 0) (laid (left_at f a) small))
         go false p =
-            ap (fire_shape ws us) (book_at f nf a (inside i in-i) ∙ shape_as f a refl)
+            ap (fire_shape ws us) (book_at f nf a (inside i in_i) ∙ shape_as f a refl)
             ∙ other_kind_lem ws us (kind_at f a) (left_at f a) (right_at f a) (eqb-false (kind_at f a) 5 p)
             ∙ ap (yields (right_at f a)) (sym (term_out w l n n (omega arith)))
 

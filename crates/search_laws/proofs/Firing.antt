@@ -85,7 +85,7 @@ pub record FallenTo (m : Limits) (f : List ℕ) (nf base : ℕ) (t0 : List ℕ) 
   pub long : length front ≡ i
   pub so : Fallen m f nf base t0 w0 q front back n t w p
 
-module _ (m : Limits) (f : List ℕ) (nf : ℕ) (laid : Laid f nf) (long-f : nf ≤ length f) (few : nf ≤ 65536) (base : ℕ) (t0 : List ℕ)
+module _ (m : Limits) (f : List ℕ) (nf : ℕ) (laid : Laid f nf) (long_f : nf ≤ length f) (few : nf ≤ 65536) (base : ℕ) (t0 : List ℕ)
     (w0 : List Rec) (room : (m.levels + 1) * stretch ≤ length w0) (q : Sequent) (few_nodes : last_node f nf base w0 q ≤ 65536) where
   -- the book, the unordered records before any fires, and one past the last node
   abbrev ws : Book
@@ -182,18 +182,18 @@ module _ (m : Limits) (f : List ℕ) (nf : ℕ) (laid : Laid f nf) (long-f : nf 
     pub fall_past : {r : ℕ} → r ≡ fires_by f w p.level p.unordered i → p.unordered ≤ r → FallenTo m f nf base t0 w0 q i n t w p
     unfolding zs kept firing
     fall_past {r} er h =
-        let none-fires : fire_shape ws us (look ws e.formula) ≡ none =
-        still (does_not_fire f nf laid long-f w p.level p.unordered inside i in_p er h) in
+        let none_fires : fire_shape ws us (look ws e.formula) ≡ none =
+        still (does_not_fire f nf laid long_f w p.level p.unordered inside i in_p er h) in
         let now : fire ws us n (e ∷ x.back) ≡
         record { kept = e ∷ kept; nodes = (fire ws us n x.back).nodes; new = (fire ws us n x.back).new } =
-        fire_kept ws us n e x.back none-fires in
+        fire_kept ws us n e x.back none_fires in
         record {
           front = zs;
           back = e ∷ x.back;
           long = cut.long;
           so = record {
             is = whole_is;
-            next = omega (arith, x.so.next, split_firing, firing_none ws us e [] none-fires);
+            next = omega (arith, x.so.next, split_firing, firing_none ws us e [] none_fires);
             seats = subst (λ (r : Fired). Seats m nf end w p (zs ++ r.kept) r.new) (sym now) seats_now;
             level = x.so.level;
             goal = x.so.goal;
@@ -208,7 +208,7 @@ module _ (m : Limits) (f : List ℕ) (nf : ℕ) (laid : Laid f nf) (long-f : nf 
 
       fired : fire_shape ws us (look ws e.formula) ≡ some (term_at w (p.level * stretch + r), right_at f a)
       unfolding a
-      fired = still (does_fire f nf laid long-f w p.level p.unordered inside i in_p er h)
+      fired = still (does_fire f nf laid long_f w p.level p.unordered inside i in_p er h)
 
       counts : firing ws us x.front ≡ firing ws us zs + 1
       unfolding firing
@@ -292,8 +292,8 @@ module _ (m : Limits) (f : List ℕ) (nf : ℕ) (laid : Laid f nf) (long-f : nf 
           where
             right_in : right_at f a < nf
             right_in =
-                let five : kind_at f a ≡ 5 = fires_five f nf laid long-f w p.level p.unordered inside i in_p er h in
-                omega (arith, parts_in f nf laid long-f a (inside i in_p) five, inside i in_p)
+                let five : kind_at f a ≡ 5 = fires_five f nf laid long_f w p.level p.unordered inside i in_p er h in
+                omega (arith, parts_in f nf laid long_f a (inside i in_p) five, inside i in_p)
 
   -- at the front everything has fired as the search as written says
   pub fall_ends : {n : ℕ} {t : List ℕ} {w : List Rec} {p : Sequent} → FallenTo m f nf base t0 w0 q 0 n t w p →

@@ -83,7 +83,7 @@ module _ {m : Limits} (taken : List (List ℕ)) {x : Lent} {s : State} {q : Sequ
       ew3 eq3
 
   -- before the second premise: one Application, and C is pushed; t is the node of the first
-  module _ {n : ℕ} (c t : ℕ) (c-in : c < s.formulas) (t-in : t < s.terms)
+  module _ {n : ℕ} (c t : ℕ) (c_in : c < s.formulas) (t_in : t < s.terms)
       (tested : Tested m n s.indices s.formulas (s.terms + 1) (q.unordered + q.ordered) (q.level + 1)) where
     pub second_count : (q.unordered + q.ordered ≡ count (second_next x q i c s.terms)) ×
         (q.level + 1 ≡ (second_next x q i c s.terms).level)
@@ -102,7 +102,7 @@ module _ {m : Limits} (taken : List (List ℕ)) {x : Lent} {s : State} {q : Sequ
         let h2 = fields eq2 in
         let h3 = fields eq3 in
         let few : (s.formulas + 0 ≤ 65536) × (s.terms + 1 ≤ 65536) = omega (arith, p, rep.rooms) in
-        let x-in = record_in.term_in in
+        let x_in = record_in.term_in in
         let goal = rep.seats.goal_in in
         made_of search4 s.indices (app (term_of x q i) t ∷ []) (second_next x q i c s.terms) rep words_none et
         (fits16 (app (term_of x q i) t) (omega arith, omega arith) tt, tt) es p.indices (omega (arith, p.formulas)) p.terms
@@ -225,7 +225,7 @@ module _ {m : Limits} (taken : List (List ℕ)) {x : Lent} {s : State} {q : Sequ
               let few : (s.formulas + 1 ≤ 16384) × (s.terms + 5 ≤ 16384) = omega (arith, p, rep.rooms) in
               let u : b + 1 ≤ 4096 = p.indices in
               let up : a < b = omega (arith, fresh_above taken (a + 1)) in
-              let x-in = record_in.term_in in
+              let x_in = record_in.term_in in
               let ins = nested_in in
               made_of search4 (b + 1) first_pieces first_next rep
               (words_imp ef (omega arith) (omega arith) (omega (arith, p.formulas, rep.rooms.words_room)) (omega arith)) et (

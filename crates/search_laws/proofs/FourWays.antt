@@ -35,7 +35,7 @@ use Rattle.search_laws.proofs.Four.{first_count}
 -- the second premise, at the lists x and the state s2; s is the state before the try
 module _ {m : Limits} (taken : List (List ℕ)) {x : Lent} {s2 : State} {q : Sequent} (rep : Rep m x s2 q) (none_left : q.ordered ≡ 0)
     {i : ℕ}
-    (here : i < q.unordered) (c t : ℕ) (c-in : c < s2.formulas) (t-in : t < s2.terms) where
+    (here : i < q.unordered) (c t : ℕ) (c_in : c < s2.formulas) (t_in : t < s2.terms) where
   -- what a failed second premise goes on with
   abbrev on_second : Next → Seen → ℕ → Tree → M.State → M.Answer
   on_second next seen d k S4 = next d (failed_second seen k) S4
@@ -50,7 +50,7 @@ module _ {m : Limits} (taken : List (List ℕ)) {x : Lent} {s2 : State} {q : Seq
       (q.level + 1) →
       (n ≡ 0 → ⊥) → Finishes m taken x s s2 q i c t (Short n s2) x
   second_short e z =
-      let o = second_count taken rep none_left here c t c-in t-in e in
+      let o = second_count taken rep none_left here c t c_in t_in e in
       record {
         is = λ next seen S. gives_as _ (second_by next seen S)
             (gives_short [] (by search4 (app (term_of x q i) t ∷ [])) (second_next x q i c s2.terms) _ e z (omega arith) refl o.0 o.1

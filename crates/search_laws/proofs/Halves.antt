@@ -113,9 +113,9 @@ module _ {m : Limits} (taken : List (List ℕ)) {x : Lent} {s : State} {q : Sequ
       unfolding inl_end
       tries_first_found {i} up p c =
           let back = back_found mk rep up p.kept in
-          let i-in = p.kept.after.root_in in
+          let i_in = p.kept.after.root_in in
           let few = p.kept.within.in_terms in
-          let most-in = rep.rooms.most_terms in
+          let most_in = rep.rooms.most_terms in
           let end = gives_close search3 back.rep (fits16 (inl i) (omega arith) tt) c in
           gives_as _ or_by (gives_try_found mk (λ S d. inl_end m d) after_first rep up p end.kept (λ S sh. end.means))
 
@@ -156,9 +156,9 @@ module _ {m : Limits} (taken : List (List ℕ)) {x : Lent} {s : State} {q : Sequ
     unfolding inr_end
     second_half_found {i} up p c =
         let back = back_found mk rep up p.kept in
-        let i-in = p.kept.after.root_in in
+        let i_in = p.kept.after.root_in in
         let few = p.kept.within.in_terms in
-        let most-in = rep.rooms.most_terms in
+        let most_in = rep.rooms.most_terms in
         let end = gives_close search3 back.rep (fits16 (inr i) (omega arith) tt) c in
         record {
           gives = λ K. gives_as _ (second_by K)

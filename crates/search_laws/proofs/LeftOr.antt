@@ -155,9 +155,9 @@ module _ {m : Limits} (taken : List (List ℕ)) {x : Lent} {s : State} {q : Sequ
     or_second_found hh hi hv hg up p c =
         let back = back_found mk rep up p.kept in
         let few : s.terms ≤ 16384 = omega (arith, rep.within.in_terms, rep.rooms.most_terms) in
-        let j-in = p.kept.after.root_in in
-        let j-few = p.kept.within.in_terms in
-        let most-in = rep.rooms.most_terms in
+        let j_in = p.kept.after.root_in in
+        let j_few = p.kept.within.in_terms in
+        let most_in = rep.rooms.most_terms in
         gives_as _ second_by (gives_found mk (or_end m h v i (name g)) rep up p
         (gives_close left_or back.rep (fits16 (case h v i (name g) _) (omega arith, omega arith, omega arith)
         (omega arith, omega arith)) c))

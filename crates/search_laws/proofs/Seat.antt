@@ -92,7 +92,7 @@ module _ {m : Limits} {nf nt : ℕ} {w : List Rec} {q : Sequent} {us os : List E
 
   module _ (room : (m.levels + 1) * stretch ≤ length w) where
     -- a record written at place i of the stretch
-    module _ (a t : ℕ) (a_in : a < nf) (t-in : t < nt) (few : (nf ≤ 65536) × (nt ≤ 65536)) where
+    module _ (a t : ℕ) (a_in : a < nf) (t_in : t < nt) (few : (nf ≤ 65536) × (nt ≤ 65536)) where
       written : (i : ℕ) → i < length w → get_or (set w i (rec a t)) i zeroed ≡ record_of a t
       written i h = get_or-set_same w i (rec a t) zeroed h
           ∙ ap₂ record_of (mod-eq_of_lt (let p : a < 65536 = omega arith in p))
@@ -105,7 +105,7 @@ module _ {m : Limits} {nf nt : ℕ} {w : List Rec} {q : Sequent} {us os : List E
       inside_written : (i : ℕ) → i < length w → Inside nf nt (set w i (rec a t)) i
       inside_written i h = record {
         formula_in = subst (λ (r : Rec). r.formula < nf) (sym (written i h)) a_in;
-        term_in = subst (λ (r : Rec). r.term < nt) (sym (written i h)) t-in;
+        term_in = subst (λ (r : Rec). r.term < nt) (sym (written i h)) t_in;
       }
 
       other : (p i : ℕ) → (i ≡ p → ⊥) → get_or (set w p (rec a t)) i zeroed ≡ get_or w i zeroed

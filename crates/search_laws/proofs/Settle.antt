@@ -178,7 +178,7 @@ module _ {m : Limits} (taken : List (List ℕ)) {x : Lent} {s : State} {q : Sequ
         us : List M.Entry
         us = unordered_in x.records q.level q.unordered
 
-    module _ {c : ℕ} (ec : c ≡ firing_in x.words x.records q.level q.unordered q.unordered) (some-fire : c ≡ 0 → ⊥)
+    module _ {c : ℕ} (ec : c ≡ firing_in x.words x.records q.level q.unordered q.unordered) (some_fire : c ≡ 0 → ⊥)
         (no_more : q.ordered ≡ 0) where
       nodes_many : length fired.nodes ≡ c
       unfolding fired

@@ -175,7 +175,7 @@ module _ {m : Limits} (taken : List (List ℕ)) {x : Lent} {s : State} {q : Sequ
               (f (back_found mk rep up p1.kept) p1.kept.after.root_in (omega (arith, (passes t n).indices)))
 
       pub or_lost_second : {z : Lent} {r : Answer} → Lost r → Branched m taken y s2 q b k r z → Goes M.by_left m taken x s q r z
-      or_lost_second l p2 = or_then (λ back i-in few. go i back.rep ek l p2)
+      or_lost_second l p2 = or_then (λ back i_in few. go i back.rep ek l p2)
         where
           go : {y z : Lent} {s2 : State} {r : Answer} (i : ℕ) → Rep m y s2 q → k ≡ fresh taken s2.indices → Lost r →
               Branched m taken y s2 q b k r z →
@@ -185,12 +185,12 @@ module _ {m : Limits} (taken : List (List ℕ)) {x : Lent} {s : State} {q : Sequ
 
       pub or_found : {z : Lent} {j : ℕ} {s3 : State} {r : Answer} {t1 : List ℕ} → Branched m taken y s2 q b k (Found j s3) z →
           Closes m z.numbers s3 (case h (name g) i (name k) j) r t1 → Goes M.by_left m taken x s q r (lent z.words t1 z.records)
-      or_found {z} {j} {s3} {r} {t1} p2 c = or_then (λ back i-in few. go back i-in few p2)
+      or_found {z} {j} {s3} {r} {t1} p2 c = or_then (λ back i_in few. go back i_in few p2)
         where
           go : Back m x s q s2 y → i < s2.terms → g < 4096 → Branched m taken y s2 q b k (Found j s3) z →
               Gives (λ d S. or_second m taken (seq_of y.records q) (others y q) b h (name g) d i S) m y s2 q r
               (lent z.words t1 z.records)
-          go back i-in few (asks t n mk up p1) =
+          go back i_in few (asks t n mk up p1) =
               or_second_found taken back.rep sp.some ek b h (name g) i mk
-              (omega (arith, eh, (top_inside taken rep sp.some).term_in, back.terms_up)) i-in (omega arith)
+              (omega (arith, eh, (top_inside taken rep sp.some).term_in, back.terms_up)) i_in (omega arith)
               (omega (arith, (passes t n).indices)) up p1 c

@@ -88,12 +88,12 @@ module _ {m : Limits} {x : Lent} {s : State} {q : Sequent} (rep : Rep m x s q) w
       w2 ≡ set w1 (push_place q1) (rec b s.terms) → q2 ≡ pushed q1 → s1 ≡ spent s (a + 1) 0 1 → (taken : List (List ℕ)) →
       a ≡ fresh taken s.indices → Half m x s q b a (Go s1 q2) (lent x.words t1 w2)
   unfolding six_of
-  half_on {a} some b-in ep t z et ew eq ew2 eq2 es taken ea =
+  half_on {a} some b_in ep t z et ew eq ew2 eq2 es taken ea =
       let h0 = fields ep in
       let h = fields eq in
       let h2 = fields eq2 in
       ready (record { is = half_tested (a + 1) s.formulas (s.terms + 1) ep t }) z
-      (half_made taken rep some ea ep (record { is = t }) z b-in
+      (half_made taken rep some ea ep (record { is = t }) z b_in
       (put_one x.numbers s.terms (ident (name a)) et refl) ew eq ew2 eq2 es) (omega arith)
 
   -- the fields of (A→B)→C, read where it lies
@@ -146,13 +146,13 @@ module _ {m : Limits} {x : Lent} {s : State} {q : Sequent} (rep : Rep m x s q) w
         w3 ≡ set w2 (push_place q2) (rec c s.terms) → q3 ≡ pushed q2 → s1 ≡ spent s s.indices 0 1 →
         Second m x s q i j (Go s1 q3) (lent x.words t1 w3)
     unfolding six_of
-    second_on {c} {j} {w2 = w2} {q2 = q2} j-in e z et ets ew eq ew2 eq2 ec ew3 eq3 es =
+    second_on {c} {j} {w2 = w2} {q2 = q2} j_in e z et ets ew eq ew2 eq2 ec ew3 eq3 es =
         let h = fields eq in
         let h2 = fields eq2 in
         let h3 = fields eq3 in
         let o = nested_in [] rep ne.none ne.here ne.arrow ne.inner in
         let at : _ ≡ term_of x q i = et ∙ ap (term_at x.records) ep in
-        ready (record { is = e }) z (second_made [] rep ne.none ne.here (end_of x q i) j o.2 j-in (record { is = e }) z
+        ready (record { is = e }) z (second_made [] rep ne.none ne.here (end_of x q i) j o.2 j_in (record { is = e }) z
         (put_one x.numbers s.terms (app (term_of x q i) j)
         (ets ∙ ap (λ (k : ℕ). put_node x.numbers s.terms (5 ∷ k ∷ j ∷ 0 ∷ 0 ∷ 0 ∷ [])) at) refl)
         ew eq ew2 eq2

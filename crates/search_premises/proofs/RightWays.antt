@@ -57,7 +57,7 @@ module _ {m : Limits} (taken : List (List ℕ)) {x : Lent} {s : State} {q : Sequ
       Raised m taken x s q a (Found i s2) y → b ≡ right_at y.words q.goal → Lost r → Raised m taken y s2 q b r z →
       Goes M.by_right m taken x s q r z
   and_lost_second {y} {z} {i} {b = b} {s2} {r} ea p eb l p2 = and_then ea p
-      (λ back i-in. go i back (subst (λ (k : ℕ). Raised m taken y s2 q k r z) eb p2) l)
+      (λ back i_in. go i back (subst (λ (k : ℕ). Raised m taken y s2 q k r z) eb p2) l)
     where
       go : {y z : Lent} (i : ℕ) {s2 : State} {r : Answer} → Rep m y s2 q →
           Raised m taken y s2 q (right_at y.words q.goal) r z → Lost r →
@@ -69,12 +69,12 @@ module _ {m : Limits} (taken : List (List ℕ)) {x : Lent} {s : State} {q : Sequ
       Raised m taken x s q a (Found i s2) y → b ≡ right_at y.words q.goal → Raised m taken y s2 q b (Found j s3) z →
       Closes m z.numbers s3 (pair i j) r t1 → Goes M.by_right m taken x s q r (lent z.words t1 z.records)
   and_found {y} {z} {i} {j} {b = b} {s2} {s3} {r} {t1} ea p eb p2 c = and_then ea p
-      (λ back i-in. go back i-in (subst (λ (k : ℕ). Raised m taken y s2 q k (Found j s3) z) eb p2))
+      (λ back i_in. go back i_in (subst (λ (k : ℕ). Raised m taken y s2 q k (Found j s3) z) eb p2))
     where
       go : Rep m y s2 q → i < s2.terms → Raised m taken y s2 q (right_at y.words q.goal) (Found j s3) z →
           Gives (λ d S. and_second m taken (seq_of y.records q) (right_at y.words q.goal) d i S) m y s2 q r
           (lent z.words t1 z.records)
-      go back i-in (raised_asks mk up h) = and_second_found taken back (right_at y.words q.goal) i mk i-in up h c
+      go back i_in (raised_asks mk up h) = and_second_found taken back (right_at y.words q.goal) i mk i_in up h c
 
 -- the goal is an implication
 module _ {m : Limits} (taken : List (List ℕ)) {x : Lent} {s : State} {q : Sequent} (rep : Rep m x s q)

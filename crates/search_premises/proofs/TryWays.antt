@@ -26,23 +26,23 @@ use Rattle.search_premises.proofs.SearchWays.{nested_back, end_back}
 
 -- the second premise at y, s2; the try began at the state s
 module _ {m : Limits} (taken : List (List ℕ)) {y : Lent} {s s2 : State} {q : Sequent} (now : Rep m y s2 q) (then : Rep m y s q) {i j : ℕ}
-    (ne : Nested y q i) (j-in : j < s2.terms) (hf : s.formulas ≤ s2.formulas) (ht : s.terms ≤ s2.terms) where
+    (ne : Nested y q i) (j_in : j < s2.terms) (hf : s.formulas ≤ s2.formulas) (ht : s.terms ≤ s2.terms) where
   end_in : end_of y q i < s2.formulas
   end_in = (impl_in taken now ne.none ne.here ne.arrow).1
 
   finishes_found : {z : Lent} {k : ℕ} {s3 : State} → SecondOf m taken y s2 q i j (Found k s3) z →
       Finishes m taken y s s2 q i (end_of y q i) j (Found k s3) z
-  finishes_found (asks t n mk up p) = second_found taken now ne.none ne.here (end_of y q i) j end_in j-in mk p
+  finishes_found (asks t n mk up p) = second_found taken now ne.none ne.here (end_of y q i) j end_in j_in mk p
 
   finishes_short : {z : Lent} {n : ℕ} {s3 : State} → SecondOf m taken y s2 q i j (Short n s3) z →
       Finishes m taken y s s2 q i (end_of y q i) j (Short n s3) z
-  finishes_short (lacks t n) = second_short taken now ne.none ne.here (end_of y q i) j end_in j-in t n
-  finishes_short (asks t n mk up p) = second_stops taken now ne.none ne.here (end_of y q i) j end_in j-in mk p
+  finishes_short (lacks t n) = second_short taken now ne.none ne.here (end_of y q i) j end_in j_in t n
+  finishes_short (asks t n mk up p) = second_stops taken now ne.none ne.here (end_of y q i) j end_in j_in mk p
 
   finishes_failed : {z : Lent} {s3 : State} → SecondOf m taken y s2 q i j (Failed s3) z →
       Finishes m taken y s s2 q i (end_of y q i) j (Failed (returned s s3)) z
   finishes_failed (asks t n mk up p) =
-      second_failed taken now ne.none ne.here (end_of y q i) j end_in j-in mk then hf ht up p
+      second_failed taken now ne.none ne.here (end_of y q i) j end_in j_in mk then hf ht up p
 
 -- the whole try at x, s
 module _ {m : Limits} (taken : List (List ℕ)) {x : Lent} {s : State} {q : Sequent} (rep : Rep m x s q) {i : ℕ} (ne : Nested x q i) where

@@ -93,11 +93,11 @@ module _ (ws : List ℕ) {s : ℕ} where
   pub one_kind : bad_word ws ≡ none → {k k' : ℕ} (i j : ℕ) → i < length ws → j < length ws →
       shape (get_or ws i 0) ≡ is_leaf k s → shape (get_or ws j 0) ≡ is_leaf k' s → k ≡ k'
   unfolding bad_word
-  one_kind passed {k} {k'} i j in-i in-j at_i at_j = go (dec_lt i j) (dec_lt j i)
+  one_kind passed {k} {k'} i j in_i in_j at_i at_j = go (dec_lt i j) (dec_lt j i)
     where
       go : Dec (i < j) → Dec (j < i) → k ≡ k'
-      go (yes h) d = sym (lower_kind i j (each_passes [] ws passed j in-j) h in-j at_i at_j)
-      go (no n) (yes h) = lower_kind j i (each_passes [] ws passed i in-i) h in-i at_j at_i
+      go (yes h) d = sym (lower_kind i j (each_passes [] ws passed j in_j) h in_j at_i at_j)
+      go (no n) (yes h) = lower_kind j i (each_passes [] ws passed i in_i) h in_i at_j at_i
       go (no n) (no m) = let same : i ≡ j = omega arith in let at : is_leaf k s ≡ is_leaf k' s = cc in cc
 
 module _ (ws : List ℕ) (i : ℕ) (low : LowestWord ws i) where

@@ -136,14 +136,14 @@ module _ (x : Inquiry) where
   second_same : {u : ℕ} → refusal (first_claim x) ≡ none → Returns (asks_for x) [] (None u) → goal_is_open x ≡ true →
       UpTo363 (second_outcome x) → Agreed (refuted (second_outcome x))
   unfolding refuted goal_is_open is_some by_negative Agreed
-  second_same e None-first p =
+  second_same e none_first p =
       second_by x (λ (o : Outcome). UpTo363 o → Agreed (refuted o)) (λ room. ends room (told (second_claim x))) (λ few l. absurd l)
     where
       ends : x.count + 2 ≤ length x.words → {o : Outcome} → Told (second_claim x) o → UpTo363 o → Agreed (refuted o)
       ends h (t_proved {u} k) l =
-          (Unsolvable, refl, opened p None-first (unpast u l (second_asks e h (proved_same (second_claim x) k))) refl)
+          (Unsolvable, refl, opened p none_first (unpast u l (second_asks e h (proved_same (second_claim x) k))) refl)
       ends h (t_unprovable {u} k) l =
-          (Unknown, refl, opened p None-first (unpast u l (second_asks e h (failed_same (second_claim x) k))) refl)
+          (Unknown, refl, opened p none_first (unpast u l (second_asks e h (failed_same (second_claim x) k))) refl)
       ends h (t_shortage k) l = absurd l
       ends h (t_refused k) l = absurd l
 
@@ -158,8 +158,8 @@ module _ (x : Inquiry) where
       verdict : {n u f t : ℕ} → (called (first_claim x)).outcome ≡ unprovable n u f t → refusal (first_claim x) ≡ none →
           Returns (asks_for x) [] (None u) → (b : Bool) → goal_is_open x ≡ b →
           Agreed (elim b as (λ z. Status) [ false ↦ settled Unsolvable | true ↦ refuted (second_outcome x) ])
-      verdict {n} {u} {f} {t} q e None-first true p = second_same e None-first p (later n u f t q (subst T (sym p) tt))
-      verdict q e None-first false p = (Unsolvable, refl, closed p None-first)
+      verdict {n} {u} {f} {t} q e none_first true p = second_same e none_first p (later n u f t q (subst T (sym p) tt))
+      verdict q e none_first false p = (Unsolvable, refl, closed p none_first)
 
       go : {o : Outcome} → Told (first_claim x) o → (called (first_claim x)).outcome ≡ o → UpTo363 o →
           Agreed (judged o (goal_is_open x) (second_outcome x))

@@ -21,8 +21,8 @@ digit_letter : (n i j k : ℕ) → j + suc k ≡ n → get_or (letters n i) j 0 
 unfolding letters
 digit_letter zero i j k e = absurd (omega arith)
 digit_letter (suc n) i j zero e =
-    let j-is : j ≡ n = omega arith in
-    ap (λ (m : ℕ). get_or (letters (suc n) i) m 0) j-is ∙ last_letter n i ∙ ap (λ (m : ℕ). 97 + m % 26) (sym (div-one i))
+    let j_is : j ≡ n = omega arith in
+    ap (λ (m : ℕ). get_or (letters (suc n) i) m 0) j_is ∙ last_letter n i ∙ ap (λ (m : ℕ). 97 + m % 26) (sym (div-one i))
 digit_letter (suc n) i j (suc k) e =
     let less : j < length (letters n (i / 26)) = omega (arith, letters_length n (i / 26)) in
     get_or-append (letters n (i / 26)) ((97 + i % 26) ∷ []) 0 j less

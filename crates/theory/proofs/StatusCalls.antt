@@ -161,10 +161,10 @@ second_no_room x h =
 -- so what holds of the one with room, and of the other without, holds of the second outcome
 pub second_by : (x : Inquiry) (P : Outcome → Type 0) → (x.count + 2 ≤ length x.words → P (called (second_claim x)).outcome) →
     (length x.words < x.count + 2 → P (shortage Formulas 0)) → P (second_outcome x)
-second_by x P with-room without = go (leb (x.count + 2) (length x.words)) refl
+second_by x P with_room without = go (leb (x.count + 2) (length x.words)) refl
   where
     go : (b : Bool) → leb (x.count + 2) (length x.words) ≡ b → P (second_outcome x)
-    go true q = let h = leb-true (x.count + 2) (length x.words) q in subst P (sym (second_room x h)) (with-room h)
+    go true q = let h = leb-true (x.count + 2) (length x.words) q in subst P (sym (second_room x h)) (with_room h)
     go false q = let h = leb-false (x.count + 2) (length x.words) q in subst P (sym (second_no_room x h)) (without h)
 
 -- the outcomes of a claim that failed and of one that ran short

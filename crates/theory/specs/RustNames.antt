@@ -41,7 +41,7 @@ turned (some identifier) = some (reverse identifier)
 unfoldable pub generate : ℕ → Option (List ℕ)
 generate idx =
     -- let num_digits = f32::floor(self.idx as f32 / alphabet_length as f32) as usize + 1;
-    let numDigits : ℕ = floored idx alphabet_length + 1 in
+    let num_digits : ℕ = floored idx alphabet_length + 1 in
     -- let mut identifier = String::new(); for ..
     -- identifier.chars().rev().collect()
-    turned (pushes idx numDigits 0 [])
+    turned (pushes idx num_digits 0 [])

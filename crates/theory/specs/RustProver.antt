@@ -66,22 +66,22 @@ module _ (forbidden : List (List ℕ)) where
   unfoldable pub handle_and_right : Call → Sequent → Form → Form → ℕ → Returned
   handle_and_right call sequent fst snd idx =
       -- let fst_sequent = sequent.with_new_goal(fst); let fst_proof_term = self.prove_right(fst_sequent)?;
-      question (call by_right (with_new_goal sequent fst) idx) λ fstProofTerm idx₁.
+      question (call by_right (with_new_goal sequent fst) idx) λ fst_proof_term idx₁.
       -- let snd_sequent = sequent.with_new_goal(snd); let snd_proof_term = self.prove_right(snd_sequent)?;
-      question (call by_right (with_new_goal sequent snd) idx₁) λ sndProofTerm idx₂.
+      question (call by_right (with_new_goal sequent snd) idx₁) λ snd_proof_term idx₂.
       -- Some(Pair::create(fst_proof_term.boxed(), snd_proof_term.boxed(), None))
-      Some (Pair fstProofTerm sndProofTerm) idx₂
+      Some (Pair fst_proof_term snd_proof_term) idx₂
 
   -- fn handle_impl_right(&mut self, mut sequent: Sequent): let Prop::Impl(fst, snd) = sequent.goal
   unfoldable pub handle_impl_right : Call → Sequent → Form → Form → ℕ → Returned
   handle_impl_right call sequent fst snd idx =
       -- let param_ident = self.generate_identifier();
-      generate_identifier idx λ paramIdent idx₁.
+      generate_identifier idx λ param_ident idx₁.
       -- let param_judgment = TypeJudgment::new(*fst.clone(), Ident::create(param_ident.clone()));
       -- sequent.append_ordered(param_judgment); sequent.goal = snd; let body_proof_term = self.prove_right(sequent)?;
-      question (call by_right (with_new_goal (append_ordered sequent (judgment fst (Ident paramIdent))) snd) idx₁) λ bodyProofTerm idx₂.
+      question (call by_right (with_new_goal (append_ordered sequent (judgment fst (Ident param_ident))) snd) idx₁) λ body_proof_term idx₂.
       -- Some(Function::create(param_ident, None, body_proof_term.boxed(), None))
-      Some (Function paramIdent bodyProofTerm) idx₂
+      Some (Function param_ident body_proof_term) idx₂
 
   -- fn prove_right(&mut self, sequent: Sequent): match sequent.goal
   unfoldable pub prove_right : Call → Sequent → ℕ → Form → Returned
@@ -106,49 +106,49 @@ module _ (forbidden : List (List ℕ)) where
   unfoldable pub handle_or_left : Call → ProofTerm → Form → Form → Sequent → ℕ → Returned
   handle_or_left call proof_term fst snd sequent idx =
       -- let fst_ident = self.generate_identifier(); let fst_judgment = TypeJudgment::new(*fst, Ident::create(fst_ident.clone()));
-      generate_identifier idx λ fstIdent idx₁.
+      generate_identifier idx λ fst_ident idx₁.
       -- fst_sequent.append_ordered(fst_judgment); let fst_term = self.prove_left(fst_sequent)?;
-      question (call by_left (append_ordered sequent (judgment fst (Ident fstIdent))) idx₁) λ fstTerm idx₂.
+      question (call by_left (append_ordered sequent (judgment fst (Ident fst_ident))) idx₁) λ fst_term idx₂.
       -- let snd_ident = self.generate_identifier(); let snd_judgment = TypeJudgment::new(*snd, Ident::create(snd_ident.clone()));
-      generate_identifier idx₂ λ sndIdent idx₃.
+      generate_identifier idx₂ λ snd_ident idx₃.
       -- snd_sequent.append_ordered(snd_judgment); let snd_term = self.prove_left(snd_sequent)?;
-      question (call by_left (append_ordered sequent (judgment snd (Ident sndIdent))) idx₃) λ sndTerm idx₄.
+      question (call by_left (append_ordered sequent (judgment snd (Ident snd_ident))) idx₃) λ snd_term idx₄.
       -- Some(Case::create(proof_term.boxed(), fst_ident, fst_term.boxed(), snd_ident, snd_term.boxed(), None))
-      Some (Case proof_term fstIdent fstTerm sndIdent sndTerm) idx₄
+      Some (Case proof_term fst_ident fst_term snd_ident snd_term) idx₄
 
   -- fn handle_impl_left(&mut self, type_judgment: TypeJudgment, mut sequent: Sequent): let Prop::Impl(fst, snd) = prop; match *fst
   unfoldable pub handle_impl_left : Call → ProofTerm → Form → Sequent → ℕ → Form → Returned
   handle_impl_left call proof_term snd sequent idx top =
       -- Application::create(proof_term.boxed(), ProofTerm::Unit(None).boxed(), None); .. sequent.append_ordered(application_judgment);
       call by_left (append_ordered sequent (judgment snd (Application proof_term UnitTerm))) idx
-  handle_impl_left call proof_term snd sequent idx (and andFst andSnd) =
+  handle_impl_left call proof_term snd sequent idx (and and_fst and_snd) =
       -- let new_prop = Prop::Impl(and_fst, Prop::Impl(and_snd, snd).boxed());
-      let newProp : Form = imp andFst (imp andSnd snd) in
+      let new_prop : Form = imp and_fst (imp and_snd snd) in
       -- let fst_ident = self.generate_identifier(); let snd_ident = self.generate_identifier();
-      generate_identifier idx λ fstIdent idx₁.
-      generate_identifier idx₁ λ sndIdent idx₂.
+      generate_identifier idx λ fst_ident idx₁.
+      generate_identifier idx₁ λ snd_ident idx₂.
       -- let new_proof_term = TypeAscription { Function { fst_ident, Function { snd_ident, Application(proof_term, Pair(fst, snd)) } } };
-      let newProofTerm : ProofTerm =
-      TypeAscription (Function fstIdent (Function sndIdent (Application proof_term (Pair (Ident fstIdent) (Ident sndIdent))))) newProp in
+      let new_proof_term : ProofTerm =
+      TypeAscription (Function fst_ident (Function snd_ident (Application proof_term (Pair (Ident fst_ident) (Ident snd_ident))))) new_prop in
       -- sequent.append_ordered(new_judgment); self.prove_left(sequent)
-      call by_left (append_ordered sequent (judgment newProp newProofTerm)) idx₂
-  handle_impl_left call proof_term snd sequent idx (or orFst orSnd) =
+      call by_left (append_ordered sequent (judgment new_prop new_proof_term)) idx₂
+  handle_impl_left call proof_term snd sequent idx (or or_fst or_snd) =
       -- let or_fst_prop = Prop::Impl(or_fst, snd.clone()); let or_fst_ident = self.generate_identifier();
-      let orFstProp : Form = imp orFst snd in
-      generate_identifier idx λ orFstIdent idx₁.
+      let or_fst_prop : Form = imp or_fst snd in
+      generate_identifier idx λ or_fst_ident idx₁.
       -- TypeAscription { Function { or_fst_ident, Application { proof_term, OrLeft(Ident(or_fst_ident)) } } }
-      let orFstProofTerm : ProofTerm =
-      TypeAscription (Function orFstIdent (Application proof_term (OrLeft (Ident orFstIdent)))) orFstProp in
+      let or_fst_proof_term : ProofTerm =
+      TypeAscription (Function or_fst_ident (Application proof_term (OrLeft (Ident or_fst_ident)))) or_fst_prop in
       -- sequent.append_ordered(or_fst_judgment);
-      let sequent₁ : Sequent = append_ordered sequent (judgment orFstProp orFstProofTerm) in
+      let sequent₁ : Sequent = append_ordered sequent (judgment or_fst_prop or_fst_proof_term) in
       -- let or_snd_prop = Prop::Impl(or_snd.clone(), (*snd).boxed()); let or_snd_ident = self.generate_identifier();
-      let orSndProp : Form = imp orSnd snd in
-      generate_identifier idx₁ λ orSndIdent idx₂.
+      let or_snd_prop : Form = imp or_snd snd in
+      generate_identifier idx₁ λ or_snd_ident idx₂.
       -- TypeAscription { Function { or_snd_ident, Application { proof_term, OrRight(Ident(or_snd_ident)) } } }
-      let orSndProofTerm : ProofTerm =
-      TypeAscription (Function orSndIdent (Application proof_term (OrRight (Ident orSndIdent)))) orSndProp in
+      let or_snd_proof_term : ProofTerm =
+      TypeAscription (Function or_snd_ident (Application proof_term (OrRight (Ident or_snd_ident)))) or_snd_prop in
       -- sequent.append_ordered(or_snd_judgment); self.prove_left(sequent)
-      call by_left (append_ordered sequent₁ (judgment orSndProp orSndProofTerm)) idx₂
+      call by_left (append_ordered sequent₁ (judgment or_snd_prop or_snd_proof_term)) idx₂
   -- Prop::False => self.prove_left(sequent)
   handle_impl_left call proof_term snd sequent idx bot = call by_left sequent idx
   -- sequent.append_unordered(TypeJudgment::new(Prop::Impl(fst, snd), proof_term)); self.prove_left(sequent)
@@ -175,30 +175,30 @@ module _ (forbidden : List (List ℕ)) where
 
   -- Impl Impl left rule: if let Prop::Impl(impl_impl_fst, impl_impl_snd) = *impl_fst; sequent is searching_sequent
   unfoldable pub impl_impl : Call → ProofTerm → Form → Sequent → (ℕ → Returned) → ℕ → Form → Returned
-  impl_impl call proof_term implSnd sequent next idx top = next idx
-  impl_impl call proof_term implSnd sequent next idx bot = next idx
-  impl_impl call proof_term implSnd sequent next idx (leaf k y) = next idx
-  impl_impl call proof_term implSnd sequent next idx (and a b) = next idx
-  impl_impl call proof_term implSnd sequent next idx (or a b) = next idx
-  impl_impl call proof_term implSnd sequent next idx (imp implImplFst implImplSnd) =
+  impl_impl call proof_term impl_snd sequent next idx top = next idx
+  impl_impl call proof_term impl_snd sequent next idx bot = next idx
+  impl_impl call proof_term impl_snd sequent next idx (leaf k y) = next idx
+  impl_impl call proof_term impl_snd sequent next idx (and a b) = next idx
+  impl_impl call proof_term impl_snd sequent next idx (or a b) = next idx
+  impl_impl call proof_term impl_snd sequent next idx (imp impl_impl_fst impl_impl_snd) =
       -- let fst_goal = Prop::Impl(impl_impl_fst, impl_impl_snd.clone()); let mut fst_sequent = searching_sequent.with_new_goal(&fst_goal);
-      let fstSequent : Sequent = with_new_goal sequent (imp implImplFst implImplSnd) in
+      let fst_sequent : Sequent = with_new_goal sequent (imp impl_impl_fst impl_impl_snd) in
       -- let first_param_ident = self.generate_identifier();
-      generate_identifier idx λ firstParamIdent idx₁.
+      generate_identifier idx λ first_param_ident idx₁.
       -- let new_prop = Prop::Impl(impl_impl_snd.boxed(), impl_snd.boxed());
-      let newProp : Form = imp implImplSnd implSnd in
+      let new_prop : Form = imp impl_impl_snd impl_snd in
       -- .. param_ident: self.generate_identifier(), in the innermost Function
-      generate_identifier idx₁ λ secondParamIdent idx₂.
+      generate_identifier idx₁ λ second_param_ident idx₂.
       -- TypeAscription { Function { first_param_ident, Application { proof_term, Function { .., Ident(first_param_ident) } } } }
-      let newProofTerm : ProofTerm =
-      TypeAscription (Function firstParamIdent (Application proof_term (Function secondParamIdent (Ident firstParamIdent)))) newProp in
+      let new_proof_term : ProofTerm =
+      TypeAscription (Function first_param_ident (Application proof_term (Function second_param_ident (Ident first_param_ident)))) new_prop in
       -- fst_sequent.append_ordered(..); if let Some(fst_proof_term) = self.prove_right(fst_sequent) {
-      if_let_some (call by_right (append_ordered fstSequent (judgment newProp newProofTerm)) idx₂)
+      if_let_some (call by_right (append_ordered fst_sequent (judgment new_prop new_proof_term)) idx₂)
       -- snd_sequent.append_ordered(TypeJudgment::new(*impl_snd, Application::create(proof_term.boxed(), fst_proof_term.boxed(), None)));
       -- if let Some(final_proof_term) = self.prove_left(snd_sequent) { return Some(final_proof_term); }
-      (λ fstProofTerm idx₃.
-      if_let_some (call by_left (append_ordered sequent (judgment implSnd (Application proof_term fstProofTerm))) idx₃)
-      (λ finalProofTerm idx₄. Some finalProofTerm idx₄) next)
+      (λ fst_proof_term idx₃.
+      if_let_some (call by_left (append_ordered sequent (judgment impl_snd (Application proof_term fst_proof_term))) idx₃)
+      (λ final_proof_term idx₄. Some final_proof_term idx₄) next)
       next
 
   -- let Prop::Impl(impl_fst, impl_snd) = prop else { continue; };
@@ -208,7 +208,7 @@ module _ (forbidden : List (List ℕ)) where
   impl_rule call proof_term sequent next idx (leaf k y) = next idx
   impl_rule call proof_term sequent next idx (and a b) = next idx
   impl_rule call proof_term sequent next idx (or a b) = next idx
-  impl_rule call proof_term sequent next idx (imp implFst implSnd) = impl_impl call proof_term implSnd sequent next idx implFst
+  impl_rule call proof_term sequent next idx (imp impl_fst impl_snd) = impl_impl call proof_term impl_snd sequent next idx impl_fst
 
   -- for i in 0..sequent.unordered_ctx.len() {
   --     let mut searching_sequent = sequent.clone();
@@ -236,13 +236,13 @@ module _ (forbidden : List (List ℕ)) where
 -- impl atom rule: if let Some(elem) = sequent.find_in_unordered_context_by_prop(&impl_fst) {
 --     TypeJudgment::new(*impl_snd.clone(), Application::create(proof_term.boxed(), elem.proof_term.boxed(), None)) }, of an atom impl_fst
 unfoldable pub atom_change : List TypeJudgment → ProofTerm → Form → Form → Option TypeJudgment
-atom_change ctx proof_term implSnd top = none
-atom_change ctx proof_term implSnd bot = none
-atom_change ctx proof_term implSnd (leaf k y) =
-    elim (find (leaf k y) ctx) [ none ↦ none | some elem ↦ some (judgment implSnd (Application proof_term elem)) ]
-atom_change ctx proof_term implSnd (and a b) = none
-atom_change ctx proof_term implSnd (or a b) = none
-atom_change ctx proof_term implSnd (imp a b) = none
+atom_change ctx proof_term impl_snd top = none
+atom_change ctx proof_term impl_snd bot = none
+atom_change ctx proof_term impl_snd (leaf k y) =
+    elim (find (leaf k y) ctx) [ none ↦ none | some elem ↦ some (judgment impl_snd (Application proof_term elem)) ]
+atom_change ctx proof_term impl_snd (and a b) = none
+atom_change ctx proof_term impl_snd (or a b) = none
+atom_change ctx proof_term impl_snd (imp a b) = none
 
 -- let Prop::Impl(impl_fst, impl_snd) = prop else { continue; };
 unfoldable pub change : List TypeJudgment → ProofTerm → Form → Option TypeJudgment
@@ -251,7 +251,7 @@ change ctx proof_term bot = none
 change ctx proof_term (leaf k y) = none
 change ctx proof_term (and a b) = none
 change ctx proof_term (or a b) = none
-change ctx proof_term (imp implFst implSnd) = atom_change ctx proof_term implSnd implFst
+change ctx proof_term (imp impl_fst impl_snd) = atom_change ctx proof_term impl_snd impl_fst
 
 -- for i in 0..sequent.unordered_ctx.len() { .. atom_impl_changes.push((i, new_judgment)); }, from i on
 unfoldable pub changes : List TypeJudgment → ℕ → List TypeJudgment → List (ℕ × TypeJudgment)
@@ -259,13 +259,13 @@ changes ctx i [] = []
 changes ctx i (e ∷ es) =
     elim (change ctx e.proof_term e.prop) [
       | none ↦ changes ctx (suc i) es
-      | some newJudgment ↦ (i, newJudgment) ∷ changes ctx (suc i) es
+      | some new_judgment ↦ (i, new_judgment) ∷ changes ctx (suc i) es
     ]
 
 -- for (i, new_judgment) in atom_impl_changes { impl_sequent.unordered_ctx.remove(i); impl_sequent.append_ordered(new_judgment); }
 unfoldable pub changed : List (ℕ × TypeJudgment) → Sequent → Sequent
-changed [] implSequent = implSequent
-changed (c ∷ cs) implSequent = changed cs (append_ordered (remove implSequent c.0) c.1)
+changed [] impl_sequent = impl_sequent
+changed (c ∷ cs) impl_sequent = changed cs (append_ordered (remove impl_sequent c.0) c.1)
 
 -- id rule, of an atom and of both quantifications: sequent.find_in_unordered_context_by_prop(sequent.goal)
 unfoldable pub id_rule : List TypeJudgment → Form → Option ProofTerm
