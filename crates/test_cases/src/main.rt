@@ -49,7 +49,7 @@ fn lines<W: Write>(out: &mut W, list: &[u8]) -> io::Result<()> {
 }
 
 fn main(rt: HostRuntime) -> io::Result<()> {
-    let mut list = [0u8; test_lists::MOST_BYTES];
+    let mut list = test_lists::room();
     let n = test_lists::read(&rt, &mut list)?;
     if 0 < n {
         lines(&mut io::writer(&rt), &list[..n])?;

@@ -3,7 +3,7 @@
 //
 // A list is how it was made (a length and so many bytes), how many rows it has, and the rows. What a program adds to a row stands behind
 // the row's own numbers and before its book.
-ghost use Rattle.std.specs.Prelude.{◌≡◌};
+ghost use Rattle.std.specs.Prelude.{◌≡◌, length};
 ghost use Rattle.std.specs.Io.{ReadsAtMost};
 
 use std::io::{Read, Write};
@@ -12,6 +12,13 @@ use std::{fs, io};
 
 // The longest list.
 pub const MOST_BYTES: usize = 524288;
+
+// Room for a list, all zeros. The contract tells its length alone, so that no proof above unfolds so many numbers.
+pub fn room() -> [u8; MOST_BYTES]
+    ensures { length result ≡ MOST_BYTES }
+{
+    [0; MOST_BYTES]
+}
 
 // Prints a text.
 pub fn text<W: Write>(out: &mut W, t: &[u8]) -> io::Result<()> {

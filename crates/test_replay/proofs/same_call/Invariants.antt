@@ -1,6 +1,5 @@
 -- `same_call`: the measure is how many numbers are left. Assumes nothing.
 use Prim.Native.Nat.{◌-◌, ◌≤◌}
-use borrow.Author.Rules.{rules}
 use Rattle.test_replay.proofs.same_call.Given as goal
 
 abbrev pub invariant-loop-k : goal.invariant-loop-k
