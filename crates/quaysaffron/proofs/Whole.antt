@@ -1,5 +1,6 @@
 -- What the program reads of a file is enough: all of it, or a byte more than a house file may have. Assumes nothing.
-use Rattle.std.proofs.Common.{ℕ, ◌≡◌, ◌≤◌, ◌<◌, ◌++◌, ◌∙◌, refl, sym, ap, subst, Bool, true, false, List, [], length, take, slice_range, arith, append-nil, length-append}
+use Rattle.std.proofs.Common.{ℕ, ◌≡◌, ◌≤◌, ◌<◌, ◌++◌, ◌∙◌, refl, sym, ap, subst, Bool, true, false, List, [], length, take}
+use Rattle.std.proofs.Common.{slice_range, arith, append-nil, length-append}
 use Rattle.std.specs.Prelude.{Some, None, IfSome, nat_lt}
 use Rattle.std.specs.declared.option.Option.{Option}
 use Rattle.std.specs.Io.KnownBytes.{Appends, Consumes, IsAtEnd}

@@ -129,7 +129,8 @@ module _ (forbidden : List (List ℕ)) where
       generate_identifier idx₁ λ snd_ident idx₂.
       -- let new_proof_term = TypeAscription { Function { fst_ident, Function { snd_ident, Application(proof_term, Pair(fst, snd)) } } };
       let new_proof_term : ProofTerm =
-      TypeAscription (Function fst_ident (Function snd_ident (Application proof_term (Pair (Ident fst_ident) (Ident snd_ident))))) new_prop in
+      TypeAscription
+      (Function fst_ident (Function snd_ident (Application proof_term (Pair (Ident fst_ident) (Ident snd_ident))))) new_prop in
       -- sequent.append_ordered(new_judgment); self.prove_left(sequent)
       call by_left (append_ordered sequent (judgment new_prop new_proof_term)) idx₂
   handle_impl_left call proof_term snd sequent idx (or or_fst or_snd) =
@@ -191,7 +192,8 @@ module _ (forbidden : List (List ℕ)) where
       generate_identifier idx₁ λ second_param_ident idx₂.
       -- TypeAscription { Function { first_param_ident, Application { proof_term, Function { .., Ident(first_param_ident) } } } }
       let new_proof_term : ProofTerm =
-      TypeAscription (Function first_param_ident (Application proof_term (Function second_param_ident (Ident first_param_ident)))) new_prop in
+      TypeAscription
+      (Function first_param_ident (Application proof_term (Function second_param_ident (Ident first_param_ident)))) new_prop in
       -- fst_sequent.append_ordered(..); if let Some(fst_proof_term) = self.prove_right(fst_sequent) {
       if_let_some (call by_right (append_ordered fst_sequent (judgment new_prop new_proof_term)) idx₂)
       -- snd_sequent.append_ordered(TypeJudgment::new(*impl_snd, Application::create(proof_term.boxed(), fst_proof_term.boxed(), None)));
