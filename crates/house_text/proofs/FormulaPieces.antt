@@ -107,6 +107,10 @@ pub record WordRead (words : List ℕ) (i k l : ℕ) : Type 0 where
   pub kind : k ≡ kind_of (get_or words i 0)
   pub left : l ≡ left_of (get_or words i 0)
 
+pub word_read : {words : List ℕ} {i k l : ℕ} → GoodWords words → i < length words → k ≡ kind_of (get_or words i 0) →
+    l ≡ left_of (get_or words i 0) → WordRead words i k l
+word_read g h e f = record { words_good = g; inside = h; kind = e; left = f }
+
 module _ {words : List ℕ} {i k l : ℕ} (w : WordRead words i k l) where
   abbrev right : ℕ
   right = right_of (get_or words i 0)

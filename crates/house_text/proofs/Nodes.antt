@@ -73,6 +73,10 @@ pub record NodeRead (words terms : List ℕ) (i k : ℕ) : Type 0 where
   pub inside : i < length terms / node_width
   pub kind : k ≡ get_or terms (i * node_width) 0
 
+pub node_read : {words terms : List ℕ} {i k : ℕ} → Given words terms → i < length terms / node_width →
+    k ≡ get_or terms (i * node_width) 0 → NodeRead words terms i k
+node_read g h e = record { given = g; inside = h; kind = e }
+
 -- a number of a node, and the number that was read
 abbrev number_at : List ℕ → ℕ → ℕ → ℕ
 number_at terms i j = get_or terms (i * node_width + j) 0

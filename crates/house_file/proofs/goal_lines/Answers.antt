@@ -5,7 +5,7 @@ use mathlib.Core.Path.{sym, ap, ◌∙◌, subst}
 use mathlib.Core.List.{List}
 use lib.ListN.{length, drop, length-replicate}
 use Rattle.theory.specs.NameText.{padded}
-use Rattle.house_sections.specs.Held.{indices_from, text_from}
+use Rattle.house_sections.specs.Held.{indices_from}
 use Rattle.house_file.proofs.Filled.{indices_many, laid_size, laid_inside}
 use Rattle.house_file.proofs.Whole.{goal_room, settled}
 use Rattle.house_file.proofs.goal_lines.Goals as goal
@@ -26,31 +26,25 @@ slice_bounds-search_claim-end-2 c =
 
 pub slice_bounds-search_claim-end-3 : goal.slice_bounds-search_claim-end-3
 slice_bounds-search_claim-end-3 c =
-    (laid_inside c.fill_names-size.result (text_from c.args.assumptions (drop (4 + 4 * c.args.formulas) c.args.file.now))
-    c.args.names.now c.fill_names-size.new.text c.fill_names-size.ensures.text c.fill_names-size.ensures.length)
+    laid_inside _ _ _ _ c.fill_names-size.ensures.text c.fill_names-size.ensures.length
 
 pub slice_bounds-search_claim-end-4 : goal.slice_bounds-search_claim-end-4
 slice_bounds-search_claim-end-4 c =
-    (laid_size c.fill_names-size.result (text_from c.args.assumptions (drop (4 + 4 * c.args.formulas) c.args.file.now))
-    c.args.names.now c.fill_names-size.new.text c.fill_names-size.ensures.text c.fill_names-size.ensures.length)
+    laid_size _ _ _ _ c.fill_names-size.ensures.text c.fill_names-size.ensures.length
 
 pub slice_bounds-answer_lines-end : goal.slice_bounds-answer_lines-end
 slice_bounds-answer_lines-end c =
-    (laid_inside c.fill_names-size.result (text_from c.args.assumptions (drop (4 + 4 * c.args.formulas) c.args.file.now))
-    c.args.names.now c.fill_names-size.new.text c.fill_names-size.ensures.text c.fill_names-size.ensures.length)
+    laid_inside _ _ _ _ c.fill_names-size.ensures.text c.fill_names-size.ensures.length
 
 pub slice_bounds-answer_lines-end-2 : goal.slice_bounds-answer_lines-end-2
 slice_bounds-answer_lines-end-2 c =
-    (laid_size c.fill_names-size.result (text_from c.args.assumptions (drop (4 + 4 * c.args.formulas) c.args.file.now))
-    c.args.names.now c.fill_names-size.new.text c.fill_names-size.ensures.text c.fill_names-size.ensures.length)
+    laid_size _ _ _ _ c.fill_names-size.ensures.text c.fill_names-size.ensures.length
 
 pub answer_lines-requires : goal.answer_lines-requires
 answer_lines-requires c =
     let args = c.args in
     let s =
-    settled c.args.formulas c.args.assumptions c.args.goal c.args.file.now c.args.words.now c.fill_words.new.words
-    c.args.indices.now c.fill_indices.new.indices c.args.names.now c.fill_names-size.new.text c.fill_names-size.result
-    c.args.terms.now c.search_claim-outcome.new.words c.search_claim-outcome.new.terms c.search_claim-outcome.result c.requires.seen
+    settled _ _ _ c.args.file.now _ _ _ _ _ _ _ _ _ _ _ c.requires.seen
     c.requires.words c.requires.terms c.fill_words.ensures c.fill_indices.ensures c.fill_names-size.ensures.text
     c.fill_names-size.ensures.length c.search_claim-outcome.ensures in record {
       printable = s.printable;
@@ -66,9 +60,7 @@ pub returns : goal.returns
 returns c =
     let args = c.args in
     let s =
-    settled c.args.formulas c.args.assumptions c.args.goal c.args.file.now c.args.words.now c.fill_words.new.words
-    c.args.indices.now c.fill_indices.new.indices c.args.names.now c.fill_names-size.new.text c.fill_names-size.result
-    c.args.terms.now c.search_claim-outcome.new.words c.search_claim-outcome.new.terms c.search_claim-outcome.result c.requires.seen
+    settled _ _ _ c.args.file.now _ _ _ _ _ _ _ _ _ _ _ c.requires.seen
     c.requires.words c.requires.terms c.fill_words.ensures c.fill_indices.ensures c.fill_names-size.ensures.text
     c.fill_names-size.ensures.length c.search_claim-outcome.ensures in
     let laid = c.answer_lines in record {

@@ -2,24 +2,21 @@
 use mathlib.Core.Path.{sym, ap, ◌∙◌, subst}
 use mathlib.Core.List.{List}
 use Prim.Native.Nat.{ℕ, ◌≤◌}
-use lib.ListN.{length, replicate}
+use lib.ListN.{length}
 use lib.Seq.{length-take-le}
 use Rattle.theory.specs.NameText.{padded}
-use Rattle.house_text.specs.Drafted.{draft}
 use Rattle.house_file.proofs.Lines.{size_inside, lines_written, lines_refused, refused_small}
 use Rattle.house_file.proofs.proved_lines.Goals as goal
 
 pub slice_bounds-text-end : goal.slice_bounds-text-end
 slice_bounds-text-end c =
-    size_inside (draft c.args.words.now c.args.formulas c.args.assumptions c.args.names.now c.args.terms.now c.args.nodes
-    c.args.root (replicate 32768 0)) c.write_text-size.result c.write_text-size.new.number c.write_text-size.new.buf
+    size_inside _ c.write_text-size.result c.write_text-size.new.number c.write_text-size.new.buf
     c.write_text-size.ensures.written
 
 pub slice_bounds-proved-end : goal.slice_bounds-proved-end
 slice_bounds-proved-end c =
     sym (length-take-le c.write_text-size.result c.write_text-size.new.buf
-    (size_inside (draft c.args.words.now c.args.formulas c.args.assumptions c.args.names.now c.args.terms.now c.args.nodes
-    c.args.root (replicate 32768 0)) c.write_text-size.result c.write_text-size.new.number c.write_text-size.new.buf
+    (size_inside _ c.write_text-size.result c.write_text-size.new.number c.write_text-size.new.buf
     c.write_text-size.ensures.written))
 
 pub proved-requires : goal.proved-requires
@@ -28,8 +25,7 @@ proved-requires c =
     record {
       printable = c.requires.printable;
       room = subst (λ (xs : List ℕ). length xs ≤ length args.out.now)
-          (lines_written (draft c.args.words.now c.args.formulas c.args.assumptions c.args.names.now c.args.terms.now c.args.nodes
-          c.args.root (replicate 32768 0)) c.write_text-size.result c.write_text-size.new.number c.write_text-size.new.buf
+          (lines_written _ c.write_text-size.result c.write_text-size.new.number c.write_text-size.new.buf
           c.write_text-size.ensures.written args.steps
           args.indices args.formulas args.nodes
           c.if-number-eq0.true) c.requires.room;
@@ -40,8 +36,7 @@ returns-then-number-eq0 c =
     let args = c.args in
     let proved = c.proved in
     let lines = lines_written
-    (draft c.args.words.now c.args.formulas c.args.assumptions c.args.names.now c.args.terms.now c.args.nodes c.args.root
-    (replicate 32768 0)) c.write_text-size.result c.write_text-size.new.number c.write_text-size.new.buf
+    _ c.write_text-size.result c.write_text-size.new.number c.write_text-size.new.buf
     c.write_text-size.ensures.written args.steps
     args.indices args.formulas args.nodes
     c.if-number-eq0.true in record {
@@ -54,12 +49,10 @@ refused-requires c =
     let args = c.args in
     record {
       printable = refused_small
-          (draft c.args.words.now c.args.formulas c.args.assumptions c.args.names.now c.args.terms.now c.args.nodes c.args.root
-          (replicate 32768 0)) c.write_text-size.result c.write_text-size.new.number c.write_text-size.new.buf
+          _ c.write_text-size.result c.write_text-size.new.number c.write_text-size.new.buf
           c.write_text-size.ensures.written;
       room = subst (λ (xs : List ℕ). length xs ≤ length args.out.now)
-          (lines_refused (draft c.args.words.now c.args.formulas c.args.assumptions c.args.names.now c.args.terms.now c.args.nodes
-          c.args.root (replicate 32768 0)) c.write_text-size.result c.write_text-size.new.number c.write_text-size.new.buf
+          (lines_refused _ c.write_text-size.result c.write_text-size.new.number c.write_text-size.new.buf
           c.write_text-size.ensures.written args.steps
           args.indices args.formulas args.nodes c.if-number-eq0.false)
           c.requires.room;
@@ -70,8 +63,7 @@ returns c =
     let args = c.args in
     let refused = c.refused in
     let lines = lines_refused
-    (draft c.args.words.now c.args.formulas c.args.assumptions c.args.names.now c.args.terms.now c.args.nodes c.args.root
-    (replicate 32768 0)) c.write_text-size.result c.write_text-size.new.number c.write_text-size.new.buf
+    _ c.write_text-size.result c.write_text-size.new.number c.write_text-size.new.buf
     c.write_text-size.ensures.written args.steps
     args.indices args.formulas args.nodes
     c.if-number-eq0.false in record {

@@ -4,7 +4,7 @@ use native.Mathlib.Omega.{arith}
 use Rattle.theory.specs.Text.{bytes}
 use Rattle.house_text.specs.Pieces.{form_piece}
 use Rattle.house_text.proofs.Laying.{laid_as, laid_then, laid_none, laid_no_more}
-use Rattle.house_text.proofs.FormulaPieces.{WordRead, no_formula, true_piece, false_piece, atom_piece, leaf_piece}
+use Rattle.house_text.proofs.FormulaPieces.{word_read, no_formula, true_piece, false_piece, atom_piece, leaf_piece}
 use Rattle.house_text.proofs.FormulaPieces.{halves_below, halves_piece}
 use Rattle.house_text.proofs.+lay_formula.Goals as goal
 
@@ -21,26 +21,14 @@ returns-then-buf-at t c =
 pub returns-then-kind-eq-TRUE : goal.returns-then-kind-eq-TRUE
 unfolding bytes
 returns-then-kind-eq-TRUE t c =
-    let read_here : WordRead c.args.words.now c.args.i c.kind-kind.result c.left-left.result =
-    record {
-      words_good = c.requires.good;
-      inside = c.requires.inside;
-      kind = c.kind-kind.ensures;
-      left = c.left-left.ensures;
-    } in
-    laid_as (true_piece read_here c.args.levels c.if-levels-eq0.false c.if-kind-eq-TRUE.true) c.lay.ensures
+    laid_as (true_piece (word_read c.requires.good c.requires.inside c.kind-kind.ensures c.left-left.ensures) c.args.levels
+    c.if-levels-eq0.false c.if-kind-eq-TRUE.true) c.lay.ensures
 
 pub returns-then-kind-eq-FALSE : goal.returns-then-kind-eq-FALSE
 unfolding bytes
 returns-then-kind-eq-FALSE t c =
-    let read_here : WordRead c.args.words.now c.args.i c.kind-kind.result c.left-left.result =
-    record {
-      words_good = c.requires.good;
-      inside = c.requires.inside;
-      kind = c.kind-kind.ensures;
-      left = c.left-left.ensures;
-    } in
-    laid_as (false_piece read_here c.args.levels c.if-levels-eq0.false c.if-kind-eq-FALSE.true) c.lay-then-kind-eq-FALSE.ensures
+    laid_as (false_piece (word_read c.requires.good c.requires.inside c.kind-kind.ensures c.left-left.ensures) c.args.levels
+    c.if-levels-eq0.false c.if-kind-eq-FALSE.true) c.lay-then-kind-eq-FALSE.ensures
 
 pub lay_leaf-requires : goal.lay_leaf-requires
 lay_leaf-requires t c =
@@ -48,14 +36,8 @@ lay_leaf-requires t c =
 
 pub returns-then-kind-eq-ATOM : goal.returns-then-kind-eq-ATOM
 returns-then-kind-eq-ATOM t c =
-    let read_here : WordRead c.args.words.now c.args.i c.kind-kind.result c.left-left.result =
-    record {
-      words_good = c.requires.good;
-      inside = c.requires.inside;
-      kind = c.kind-kind.ensures;
-      left = c.left-left.ensures;
-    } in
-    laid_as (atom_piece read_here c.args.levels c.if-levels-eq0.false c.if-kind-eq-ATOM.true)
+    laid_as (atom_piece (word_read c.requires.good c.requires.inside c.kind-kind.ensures c.left-left.ensures) c.args.levels
+    c.if-levels-eq0.false c.if-kind-eq-ATOM.true)
     c.lay_leaf.ensures
 
 pub lay_leaf-requires-then-kind-gt-IMPL : goal.lay_leaf-requires-then-kind-gt-IMPL
@@ -64,26 +46,14 @@ lay_leaf-requires-then-kind-gt-IMPL t c =
 
 pub returns-then-kind-gt-IMPL : goal.returns-then-kind-gt-IMPL
 returns-then-kind-gt-IMPL t c =
-    let read_here : WordRead c.args.words.now c.args.i c.kind-kind.result c.left-left.result =
-    record {
-      words_good = c.requires.good;
-      inside = c.requires.inside;
-      kind = c.kind-kind.ensures;
-      left = c.left-left.ensures;
-    } in
-    laid_as (leaf_piece read_here c.args.levels c.if-levels-eq0.false c.if-kind-gt-IMPL.true)
+    laid_as (leaf_piece (word_read c.requires.good c.requires.inside c.kind-kind.ensures c.left-left.ensures) c.args.levels
+    c.if-levels-eq0.false c.if-kind-gt-IMPL.true)
     c.lay_leaf-then-kind-gt-IMPL.ensures
 
 pub lay_formula-one-requires : goal.lay_formula-one-requires
 lay_formula-one-requires t c =
-    let read_here : WordRead c.args.words.now c.args.i c.kind-kind.result c.left-left.result =
-    record {
-      words_good = c.requires.good;
-      inside = c.requires.inside;
-      kind = c.kind-kind.ensures;
-      left = c.left-left.ensures;
-    } in
-    let below = halves_below read_here c.right-right.ensures (omega arith) c.if-kind-gt-IMPL.false in
+    let below = halves_below (word_read c.requires.good c.requires.inside c.kind-kind.ensures c.left-left.ensures)
+    c.right-right.ensures (omega arith) c.if-kind-gt-IMPL.false in
     (omega (arith, below, c.requires), (c.requires.good, omega (arith, below, c.requires)))
 
 pub overflow_sub-levels-2 : goal.overflow_sub-levels-2
@@ -92,15 +62,9 @@ overflow_sub-levels-2 t c =
 
 pub lay_formula-two-requires : goal.lay_formula-two-requires
 lay_formula-two-requires t c =
-    let read_here : WordRead c.args.words.now c.args.i c.kind-kind.result c.left-left.result =
-    record {
-      words_good = c.requires.good;
-      inside = c.requires.inside;
-      kind = c.kind-kind.ensures;
-      left = c.left-left.ensures;
-    } in
     let high : 3 ≤ c.kind-kind.result = omega (arith, c.if-kind-eq-TRUE.false, c.if-kind-eq-FALSE.false, c.if-kind-eq-ATOM.false) in
-    let below = halves_below read_here c.right-right.ensures high c.if-kind-gt-IMPL.false in
+    let below = halves_below (word_read c.requires.good c.requires.inside c.kind-kind.ensures c.left-left.ensures)
+    c.right-right.ensures high c.if-kind-gt-IMPL.false in
     (omega (arith, below, c.requires), (c.requires.good, omega (arith, below, c.requires)))
 
 pub shape_of-buf : goal.shape_of-buf
@@ -112,16 +76,9 @@ shape_of-buf t c =
 pub returns : goal.returns
 unfolding bytes
 returns t c =
-    let read_here : WordRead c.args.words.now c.args.i c.kind-kind.result
-    c.left-left.result =
-    record {
-      words_good = c.requires.good;
-      inside = c.requires.inside;
-      kind = c.kind-kind.ensures;
-      left = c.left-left.ensures;
-    } in
     let high : 3 ≤ c.kind-kind.result = omega (arith, c.if-kind-eq-TRUE.false, c.if-kind-eq-FALSE.false, c.if-kind-eq-ATOM.false) in
-    laid_as (halves_piece read_here c.args.levels c.if-levels-eq0.false c.right-right.ensures high
+    laid_as (halves_piece (word_read c.requires.good c.requires.inside c.kind-kind.ensures c.left-left.ensures) c.args.levels
+    c.if-levels-eq0.false c.right-right.ensures high
     c.if-kind-gt-IMPL.false)
     (laid_then c.lay_opening-opened.ensures (laid_then c.lay_formula-one.ensures
     (laid_then c.lay-between.ensures

@@ -14,7 +14,7 @@ use Rattle.house_text.specs.Pieces.{term_piece}
 use Rattle.house_text.proofs.Laying.{laid_as, laid_then, laid_none, laid_no_more}
 use Rattle.house_text.proofs.NodePieces.{no_term}
 use Rattle.proof_term.proofs.KindLaws.{word_inside}
-use Rattle.house_text.proofs.Nodes.{NodeRead, fields_below, refused_piece, name_piece, fields_piece_lem}
+use Rattle.house_text.proofs.Nodes.{node_read, fields_below, refused_piece, name_piece, fields_piece_lem}
 use Rattle.house_text.proofs.+laying.Goals as goal
 
 pub lay_field-lay_term-requires : goal.lay_field-lay_term-requires
@@ -93,18 +93,16 @@ lay_term-returns-then-buf-at t c =
 pub lay_term-returns-in_default : goal.lay_term-returns-in_default
 unfolding bytes
 lay_term-returns-in_default t c =
-    let read_here : NodeRead c.args.words.now c.args.terms.now c.args.i c.number.result =
-    record { given = c.requires.0; inside = c.requires.1; kind = c.number.ensures } in
     let args = c.args in
-    laid_as (refused_piece read_here refl refl refl refl refl (names_in args.names.now) args.levels
+    laid_as (refused_piece (node_read c.requires.0 c.requires.1 c.number.ensures) refl refl refl refl refl
+    (names_in args.names.now) args.levels
     c.if-levels-eq0.false c.fields_of.ensures c.in_default.is) c.lay.ensures
 
 pub lay_term-returns-then-start-end : goal.lay_term-returns-then-start-end
 lay_term-returns-then-start-end t c =
-    let read_here : NodeRead c.args.words.now c.args.terms.now c.args.i c.number.result =
-    record { given = c.requires.0; inside = c.requires.1; kind = c.number.ensures } in
     let args = c.args in
-    laid_as (name_piece read_here c.number-then-start-end.ensures refl refl refl refl (names_in args.names.now)
+    laid_as (name_piece (node_read c.requires.0 c.requires.1 c.number.ensures) c.number-then-start-end.ensures refl refl refl refl
+    (names_in args.names.now)
     args.levels c.if-levels-eq0.false c.fields_of.ensures c.in-Held.is c.if-start-end.true)
     c.lay_name.ensures
 
@@ -126,9 +124,7 @@ lay_term-overflow_add-node-2 t c =
 
 pub lay_term-lay_field-first-requires : goal.lay_term-lay_field-first-requires
 lay_term-lay_field-first-requires t c =
-    let read_here : NodeRead c.args.words.now c.args.terms.now c.args.i c.number.result =
-    record { given = c.requires.0; inside = c.requires.1; kind = c.number.ensures } in
-    let below = (fields_below read_here refl refl refl refl refl c.fields_of.ensures
+    let below = (fields_below (node_read c.requires.0 c.requires.1 c.number.ensures) refl refl refl refl refl c.fields_of.ensures
     c.in-Held.is).0 in
     (omega (arith, below.0, c.decreases), (c.requires.0, below.1))
 
@@ -138,9 +134,7 @@ lay_term-overflow_add-node-3 t c =
 
 pub lay_term-lay_field-second-requires : goal.lay_term-lay_field-second-requires
 lay_term-lay_field-second-requires t c =
-    let read_here : NodeRead c.args.words.now c.args.terms.now c.args.i c.number.result =
-    record { given = c.requires.0; inside = c.requires.1; kind = c.number.ensures } in
-    let below = (fields_below read_here refl refl refl refl refl c.fields_of.ensures
+    let below = (fields_below (node_read c.requires.0 c.requires.1 c.number.ensures) refl refl refl refl refl c.fields_of.ensures
     c.in-Held.is).1 in
     (omega (arith, below.0, c.decreases), (c.requires.0, below.1))
 
@@ -150,9 +144,7 @@ lay_term-overflow_add-node-4 t c =
 
 pub lay_term-lay_field-third-requires : goal.lay_term-lay_field-third-requires
 lay_term-lay_field-third-requires t c =
-    let read_here : NodeRead c.args.words.now c.args.terms.now c.args.i c.number.result =
-    record { given = c.requires.0; inside = c.requires.1; kind = c.number.ensures } in
-    let below = (fields_below read_here refl refl refl refl refl c.fields_of.ensures
+    let below = (fields_below (node_read c.requires.0 c.requires.1 c.number.ensures) refl refl refl refl refl c.fields_of.ensures
     c.in-Held.is).2 in
     (omega (arith, below.0, c.decreases), (c.requires.0, below.1))
 
@@ -162,9 +154,7 @@ lay_term-overflow_add-node-5 t c =
 
 pub lay_term-lay_field-fourth-requires : goal.lay_term-lay_field-fourth-requires
 lay_term-lay_field-fourth-requires t c =
-    let read_here : NodeRead c.args.words.now c.args.terms.now c.args.i c.number.result =
-    record { given = c.requires.0; inside = c.requires.1; kind = c.number.ensures } in
-    let below = (fields_below read_here refl refl refl refl refl c.fields_of.ensures
+    let below = (fields_below (node_read c.requires.0 c.requires.1 c.number.ensures) refl refl refl refl refl c.fields_of.ensures
     c.in-Held.is).3 in
     (omega (arith, below.0, c.decreases), (c.requires.0, below.1))
 
@@ -174,9 +164,7 @@ lay_term-overflow_add-node-6 t c =
 
 pub lay_term-lay_field-fifth-requires : goal.lay_term-lay_field-fifth-requires
 lay_term-lay_field-fifth-requires t c =
-    let read_here : NodeRead c.args.words.now c.args.terms.now c.args.i c.number.result =
-    record { given = c.requires.0; inside = c.requires.1; kind = c.number.ensures } in
-    let below = (fields_below read_here refl refl refl refl refl c.fields_of.ensures
+    let below = (fields_below (node_read c.requires.0 c.requires.1 c.number.ensures) refl refl refl refl refl c.fields_of.ensures
     c.in-Held.is).4 in
     (omega (arith, below.0, c.decreases), (c.requires.0, below.1))
 
@@ -190,10 +178,9 @@ lay_term-shape_of-buf t c =
 pub lay_term-returns : goal.lay_term-returns
 unfolding bytes
 lay_term-returns t c =
-    let read_here : NodeRead c.args.words.now c.args.terms.now c.args.i c.number.result =
-    record { given = c.requires.0; inside = c.requires.1; kind = c.number.ensures } in
     let args = c.args in
-    laid_as (fields_piece_lem read_here refl refl refl refl refl (names_in args.names.now) args.levels
+    laid_as (fields_piece_lem (node_read c.requires.0 c.requires.1 c.number.ensures) refl refl refl refl refl
+    (names_in args.names.now) args.levels
     c.if-levels-eq0.false c.fields_of.ensures c.in-Held.is c.if-start-end.false)
     (laid_then c.lay-opened.ensures (laid_then c.lay_field-first.ensures
     (laid_then c.lay_field-second.ensures

@@ -1,15 +1,13 @@
 -- `write` hands the written front back. Assumes nothing.
 use mathlib.Core.Path.{refl}
 use Rattle.identifier_generator.proofs.Handing.{front_is_part, part_inside}
-use Rattle.house_text.specs.Drafted.{draft}
 use Rattle.house_text.proofs.WholeText.{written_front}
 use Rattle.house_text.proofs.write.Goals as goal
 
 pub slice_bounds-result-end : goal.slice_bounds-result-end
 slice_bounds-result-end c =
     part_inside (written_front
-    (draft c.args.words.now c.args.count c.args.assumptions c.args.names.now c.args.terms.now c.args.nodes c.args.root
-    c.args.buf.now)) c.write_text-n.ensures.written
+    _) c.write_text-n.ensures.written
 
 pub returns : goal.returns
 returns c =
@@ -17,8 +15,7 @@ returns c =
       written = record {
         front_is = refl;
         part_is = front_is_part
-            (written_front (draft c.args.words.now c.args.count c.args.assumptions c.args.names.now c.args.terms.now c.args.nodes
-            c.args.root c.args.buf.now)) hands.written;
+            (written_front _) hands.written;
         number_is = hands.written.number_is;
       };
       place = hands.place;

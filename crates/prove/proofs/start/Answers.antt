@@ -10,14 +10,12 @@ use Rattle.prove.proofs.start.Goals as goal
 
 pub returns-then-limits-assumed : goal.returns-then-limits-assumed
 returns-then-limits-assumed c =
-    ends_short (claim_of c.args.words.now c.args.count c.args.assumed.now c.args.names.now c.args.goal c.args.terms.now
-    (length c.args.work.now) c.args.steps) c.args.work.now c.requires refl
+    ends_short _ c.args.work.now c.requires refl
     (omega (arith, c.if-limits-assumed.true, ap (λ v. v.terms) c.limits-limits.ensures))
 
 pub assume-sequent-requires : goal.assume-sequent-requires
 assume-sequent-requires c =
-    (passes (claim_of c.args.words.now c.args.count c.args.assumed.now c.args.names.now c.args.goal c.args.terms.now
-    (length c.args.work.now) c.args.steps) c.requires).few
+    (passes _ c.requires).few
 
 pub right-requires : goal.right-requires
 right-requires c =

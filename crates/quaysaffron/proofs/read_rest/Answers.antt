@@ -9,10 +9,10 @@ loop-done-preserved g c =
     let turn = c.loop-done in
     let next = c.in_ok-all.ensures in
     record {
+      kept = kept_both c.args.start turn.done _ _ _ turn.invariant.inside turn.invariant.kept next.grown.kept;
       inside = omega (arith, next.grown.behind);
       room = omega (arith, next.grown.behind);
       long = search rules;
-      kept = kept_both c.args.start turn.done _ _ _ turn.invariant.inside turn.invariant.kept next.grown.kept;
       bytes =
           took_both _ _ _ c.args.start turn.done _ _ _ turn.invariant.inside next.grown.behind.0 next.grown.kept
           turn.invariant.bytes next.bytes;

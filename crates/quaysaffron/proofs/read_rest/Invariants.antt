@@ -6,10 +6,10 @@ use Rattle.quaysaffron.proofs.read_rest.Given as goal
 
 abbrev pub invariant-loop-done : goal.invariant-loop-done
 invariant-loop-done g l = record {
+  kept : take l.start l.buf ≡ take l.start l.initial.buf;
   inside : l.start ≤ l.done;
   room : l.done ≤ length l.buf;
   long : length l.buf ≡ length l.initial.buf;
-  kept : take l.start l.buf ≡ take l.start l.initial.buf;
   bytes : Consumes (g.R.Read.remaining l.initial.from) (g.R.Read.remaining l.from) (slice_range l.buf l.start l.done);
 }
 
