@@ -1,9 +1,9 @@
 #![tactic(auto)]
 // Limits, states, sequents and answers of the search, the small moves on states, and the test of a charge: theory's Meter in numbers.
-// What is `pub` here is for the search's own crates, and FORMULAS for the status: a `requires` is what their code shows before it calls.
+// What is `pub` here is for the search's own crates, and Limit for those who read an answer: a `requires` is what their code shows first.
 ghost use Rattle.std.specs.Prelude.{◌≡◌, ◌+◌, ◌≤◌, ◌<◌};
 ghost use Rattle.theory.specs.Meter.{lacking};
-ghost use Rattle.meter.specs.Moves.{stepped, spent, returned, limits_of, number_of};
+ghost use Rattle.meter.specs.Moves.{stepped, spent, returned, limits_of, number_of, charged};
 
 // The most generated indices, skipped ones included.
 const MOST_INDICES: usize = 4096;
@@ -11,18 +11,16 @@ const MOST_INDICES: usize = 4096;
 // The most records over both contexts of a sequent.
 pub const MOST_RECORDS: usize = 256;
 
-// The numbers of document 01's table by which a shortage is told.
-pub const STEPS: usize = 6;
-
-const NAMES: usize = 7;
-
-pub const FORMULAS: usize = 8;
-
-pub const TERMS: usize = 9;
-
-const CONTEXTS: usize = 10;
-
-const LEVELS: usize = 11;
+// What can run short, in the order of document 01's table.
+#[derive(Clone, Copy, PartialEq, Eq)]
+pub enum Limit {
+    Steps,
+    Names,
+    Formulas,
+    Terms,
+    Contexts,
+    Levels,
+}
 
 // What the search may use: steps, formula words, term nodes, and the highest level.
 #[derive(Clone, Copy)]
@@ -51,90 +49,116 @@ pub struct Sequent {
     pub goal: usize,
 }
 
-// What a judgement answers, and what has been used by then.
+// A term: its node, and what has been used by then.
 #[derive(Clone, Copy)]
-pub enum Answer {
-    // a term: its node
-    Found(usize, State),
-    // there is none
-    Failed(State),
-    // a limit would be passed: its number in document 01's table
-    Short(usize, State),
+pub struct Found {
+    pub node: usize,
+    pub state: State,
 }
 
-// What one turn of left comes to.
+// No term, and what has been used by then.
+#[derive(Clone, Copy)]
+pub enum Missed {
+    // there is none
+    Failed(State),
+    // a limit would be passed
+    Short(Limit, State),
+}
+
+// What a judgement answers.
+pub type Answer = Result<Found, Missed>;
+
+// What one turn of left comes to, where nothing is missed.
 #[derive(Clone, Copy)]
 pub enum Next {
     // left again
     Go(State, Sequent),
-    // an answer
-    End(Answer),
+    // a term
+    End(Found),
     // the two premises of a disjunction
     Split(State, Sequent),
     // the tries of search
     Try(State, Sequent),
 }
 
-// One more step entered.
-pub fn counted(state: State) -> State
-    requires { state.steps < 1000000 }
-    ensures { result ≡ stepped state }
-{
-    State {
-        steps: state.steps + 1,
-        indices: state.indices,
-        formulas: state.formulas,
-        terms: state.terms,
+impl Limit {
+    // The number of document 01's table by which a shortage is told.
+    pub fn number(self) -> usize
+        ensures { result ≡ number_of self }
+    {
+        match self {
+            Limit::Steps => 6,
+            Limit::Names => 7,
+            Limit::Formulas => 8,
+            Limit::Terms => 9,
+            Limit::Contexts => 10,
+            Limit::Levels => 11,
+        }
     }
 }
 
-// Indices used up to a number, and so many formulas and terms more.
-pub fn spend(state: State, indices: usize, formulas: usize, terms: usize) -> State
-    requires { (state.formulas + formulas ≤ 16384) × (state.terms + terms ≤ 16384) }
-    ensures { result ≡ spent state indices formulas terms }
-{
-    State {
-        steps: state.steps,
-        indices,
-        formulas: state.formulas + formulas,
-        terms: state.terms + terms,
+impl State {
+    // One more step entered.
+    pub fn counted(self) -> State
+        requires { self.steps < 1000000 }
+        ensures { result ≡ stepped self }
+    {
+        State {
+            steps: self.steps + 1,
+            ..self
+        }
     }
-}
 
-// After a failed try: the fills from before it, the steps and indices from after it.
-pub fn give_back(before: State, after: State) -> State
-    ensures { result ≡ returned before after }
-{
-    State {
-        steps: after.steps,
-        indices: after.indices,
-        formulas: before.formulas,
-        terms: before.terms,
+    // Indices used up to a number, and so many formulas and terms more.
+    pub fn spend(self, indices: usize, formulas: usize, terms: usize) -> State
+        requires { (self.formulas + formulas ≤ 16384) × (self.terms + terms ≤ 16384) }
+        ensures { result ≡ spent self indices formulas terms }
+    {
+        State {
+            steps: self.steps,
+            indices,
+            formulas: self.formulas + formulas,
+            terms: self.terms + terms,
+        }
     }
-}
 
-// 0, or the number of the first limit that a charge passes.
-pub fn lack(
-    limits: Limits,
-    indices: usize,
-    formulas: usize,
-    terms: usize,
-    records: usize,
-    level: usize,
-) -> usize
-    ensures { result ≡ number_of (lacking (limits_of limits) indices formulas terms records level) }
-{
-    if MOST_INDICES < indices {
-        NAMES
-    } else if limits.formulas < formulas {
-        FORMULAS
-    } else if limits.terms < terms {
-        TERMS
-    } else if MOST_RECORDS < records {
-        CONTEXTS
-    } else if limits.levels < level {
-        LEVELS
-    } else {
-        0
+    // After a failed try: the fills from before it, the steps and indices from after it.
+    pub fn give_back(self, after: State) -> State
+        ensures { result ≡ returned self after }
+    {
+        State {
+            steps: after.steps,
+            indices: after.indices,
+            ..self
+        }
+    }
+
+    // Whether the limits let a charge through that comes to these indices, fills, records and this level; else the first that it passes.
+    pub fn charge(
+        self,
+        limits: Limits,
+        indices: usize,
+        formulas: usize,
+        terms: usize,
+        records: usize,
+        level: usize,
+    ) -> Result<(), Missed>
+        ensures { result ≡ charged (lacking (limits_of limits) indices formulas terms records level)
+            self }
+    {
+        let passed = if MOST_INDICES < indices {
+            Limit::Names
+        } else if limits.formulas < formulas {
+            Limit::Formulas
+        } else if limits.terms < terms {
+            Limit::Terms
+        } else if MOST_RECORDS < records {
+            Limit::Contexts
+        } else if limits.levels < level {
+            Limit::Levels
+        } else {
+            return Ok(());
+        };
+        Err(Missed::Short(passed, self))
     }
 }
