@@ -1,3 +1,3 @@
 pub mod Packed
-pub mod ByKind
+pub mod KindLaws
 pub mod LeafWords

@@ -1,29 +1,35 @@
--- `clear` has zeroed the words from `from` up to `i`. The measure is what is left of the slice. Assumes nothing.
-use mathlib.Core.Path.{refl, ◌∙◌}
-use mathlib.Core.Logic.{inl, inr}
+-- `clear`: what is kept, and zeros to the end. Assumes nothing.
+use Prim.Native.Nat.{ℕ, ◌-◌, ◌≤◌}
+use mathlib.Core.Path.{◌≡◌, sym, ap, ◌∙◌}
+use mathlib.Core.List.{List, [], ◌++◌, append-nil}
 use native.Mathlib.Omega.{arith}
-use Rattle.theory.proofs.Cleared.{clearing_starts, clearing_goes, clearing_done, padded_take}
+use lib.ListN.{length, take, drop, replicate}
+use lib.Seq.{take_all}
+use borrow.Rule.Slice.PartMut.{put_mid, post_of}
+use Rattle.std.proofs.lemmas.List.{length-drop, drop_all}
+use Rattle.theory.specs.NameText.{padded}
+use Rattle.theory.proofs.Cleared.{padded_take}
 use Rattle.formula.proofs.clear.Goals as goal
 
-pub loop-i-init : goal.loop-i-init
-loop-i-init c =
-    (inr refl, clearing_starts 0 c.args.words.now c.args.from)
+-- nothing is left past a part that goes to the end
+put_at_end : (from : ℕ) (l zeros : List ℕ) → zeros ≡ replicate (length (take (length l - from) (drop from l))) 0 →
+    put_mid from (length l - from) l zeros ≡ padded (length l) (take from l)
+put_at_end from l zeros e =
+    let rest : take (length l - from) (drop from l) ≡ drop from l = take_all _ (drop from l) (omega (arith, length-drop from l)) in
+    let none : post_of from (length l - from) l ≡ [] = drop_all (length l - from) (drop from l) (omega (arith, length-drop from l)) in
+    ap (λ (xs : List ℕ). take from l ++ (zeros ++ xs)) none
+    ∙ ap (λ (xs : List ℕ). take from l ++ xs) (append-nil zeros ∙ e ∙ ap (λ (n : ℕ). replicate n 0) (ap length rest ∙ length-drop from l))
+    ∙ padded_take l from
 
-pub loop-i-smaller : goal.loop-i-smaller
-loop-i-smaller c =
-    omega (arith, c.loop-i.invariant.1.long)
+none_to_clear : (from : ℕ) (l : List ℕ) → length l ≤ from → l ≡ padded (length l) (take from l)
+none_to_clear from l h =
+    let none : length l - from ≡ 0 = omega arith in
+    sym (take_all from l h) ∙ sym (append-nil (take from l)) ∙ ap (λ (n : ℕ). take from l ++ replicate n 0) (sym none) ∙ padded_take l from
 
-pub loop-i-preserved : goal.loop-i-preserved
-loop-i-preserved c =
-    let a = c.args in
-    (inl (omega (arith, c.loop-i.invariant.1.long)), clearing_goes 0 a.words.now a.from c.loop-i.invariant.1 (omega arith))
+pub returns-then-from-words : goal.returns-then-from-words
+returns-then-from-words c =
+    put_at_end c.args.from c.args.words.now c.fill.new.self (c.fill.ensures.after (λ _ e. e))
 
-pub shape_of-words : goal.shape_of-words
-shape_of-words c =
-    c.loop-i.invariant.1.long
-
-pub returns : goal.returns
-returns c =
-    let a = c.args in
-    clearing_done 0 a.words.now a.from c.loop-i.invariant.1 (omega (arith, c.loop-i.invariant.1.long)) c.loop-i.invariant.0
-    ∙ padded_take a.words.now a.from
+pub returns-else-from-words : goal.returns-else-from-words
+returns-else-from-words c =
+    none_to_clear c.args.from c.args.words.now c.if-from-words.false

@@ -1,13 +1,15 @@
 -- `equal_leaves`: the first word is a leaf, and the words are equal. Assumes nothing.
 use Rattle.formula.specs.Leaves.{equal_leaves}
+use Rattle.formula.proofs.KindLaws.{leaf_named}
+use Rattle.theory.specs.Form.{kind_of}
 use Rattle.formula.proofs.equal_leaves.Goals as goal
 
-pub returns-then-leaf_kind : goal.returns-then-leaf_kind
+pub returns-then-is_leaf : goal.returns-then-is_leaf
 unfolding equal_leaves
-returns-then-leaf_kind c =
-    rw (← c.kind_of.ensures, ← c.leaf_kind.ensures, c.if-leaf_kind.true)
+returns-then-is_leaf c =
+    rw (← leaf_named (kind_of c.args.v), ← c.kind_of.ensures, ← c.is_leaf.ensures, c.if-is_leaf.true)
 
-pub returns-else-leaf_kind : goal.returns-else-leaf_kind
+pub returns-else-is_leaf : goal.returns-else-is_leaf
 unfolding equal_leaves
-returns-else-leaf_kind c =
-    rw (← c.kind_of.ensures, ← c.leaf_kind.ensures, c.if-leaf_kind.false)
+returns-else-is_leaf c =
+    rw (← leaf_named (kind_of c.args.v), ← c.kind_of.ensures, ← c.is_leaf.ensures, c.if-is_leaf.false)

@@ -7,7 +7,7 @@ use Rattle.formula.proofs.pack.Goals as goal
 
 pub overflow_cast-k : goal.overflow_cast-k
 overflow_cast-k c =
-    record { fits = le_trans (mask_lt c.args.kind 4) (lit≤ tt) }
+    record { fits = le_trans (mask_lt c.number.result 4) (lit≤ tt) }
 
 pub overflow_cast-l : goal.overflow_cast-l
 overflow_cast-l c =
@@ -19,4 +19,4 @@ overflow_cast-r c =
 
 pub returns : goal.returns
 returns c =
-    packed c.args.kind c.args.left c.args.right
+    rw (← c.number.ensures) (packed c.number.result c.args.left c.args.right)

@@ -1,8 +1,0 @@
--- `word`: past the end the list's own default is read. Assumes nothing.
-use mathlib.Core.Path.{sym}
-use lib.ListN.{get_or-eq_default}
-use Rattle.formula.proofs.word.Goals as goal
-
-pub returns-else-i-words : goal.returns-else-i-words
-returns-else-i-words c =
-    sym (get_or-eq_default c.args.words.now 0 c.if-i-words.false)
