@@ -3,7 +3,7 @@
 // last record lowest; and the small moves on sequents. Every element of the work area is read and written here alone.
 // What is `pub` here is for the search's own crates: a `requires` is what their code shows before it calls.
 ghost use Rattle.std.specs.Prelude.{◌≡◌, ◌+◌, ◌-◌, ◌*◌, ◌%◌, ◌≤◌, ◌<◌, length, get_or, set, replicate};
-ghost use Rattle.context.specs.Area.{zeroed, rec, record_of, formula_at, term_at, copies, shifts, raised};
+ghost use Rattle.context.specs.Area.{zeroed, rec, record_of, formula_at, term_at, copies, raised};
 ghost use Rattle.context.specs.Area.{push_place, append_place, removed, top_place};
 ghost use Rattle.context.specs.Moves.{stretch, upped, pushed, popped, appended, without};
 
@@ -20,61 +20,28 @@ pub struct Record {
 // Records of a level: as many as both contexts of a sequent may hold.
 pub const STRETCH: usize = meter::MOST_RECORDS;
 
-fn wide(x: u16) -> usize
-    ensures { result ≡ x }
+// Records that hold x twice.
+pub fn filled<const N: usize>(x: u16) -> [Record; N]
+    ensures { result ≡ replicate N (record_of x x) }
 {
-    x as usize
-}
-
-// Record i, which is there.
-fn read(work: &[Record], i: usize) -> Record
-    requires { i < length work.now }
-    ensures { result ≡ get_or work.now i zeroed }
-{
-    work[i]
-}
-
-// Record i, which is there, becomes these two numbers.
-fn write(work: &mut [Record], i: usize, formula: u16, term: u16)
-    requires { i < length work.old }
-    ensures { work.new ≡ set work.old i (record_of formula term) }
-{
-    work[i] = Record { formula, term };
-}
-
-// A work area of records that hold x twice, as long as document 01 lets anyone lend.
-pub fn filled(x: u16) -> [Record; 16384]
-    ensures { result ≡ replicate 16384 (record_of x x) }
-{
-    let record = Record {
+    [Record {
         formula: x,
         term: x,
-    };
-    [record; 16384]
+    }; N]
 }
 
 // The formula of record i; 0 out of range.
 pub fn formula_at(work: &[Record], i: usize) -> usize
     ensures { result ≡ formula_at work.now i }
 {
-    if i < work.len() {
-        let r = read(work, i);
-        wide(r.formula)
-    } else {
-        0
-    }
+    work.get(i).map_or(0, |record| usize::from(record.formula))
 }
 
 // The term of record i; 0 out of range.
 pub fn term_at(work: &[Record], i: usize) -> usize
     ensures { result ≡ term_at work.now i }
 {
-    if i < work.len() {
-        let r = read(work, i);
-        wide(r.term)
-    } else {
-        0
-    }
+    work.get(i).map_or(0, |record| usize::from(record.term))
 }
 
 // Record i becomes a formula and a term, 16 bits of each; nothing changes out of range.
@@ -82,7 +49,10 @@ pub fn put(work: &mut [Record], i: usize, a: usize, x: usize)
     ensures { work.new ≡ set work.old i (rec a x) }
 {
     if i < work.len() {
-        write(work, i, (a % 65536) as u16, (x % 65536) as u16);
+        work[i] = Record {
+            formula: (a % 65536) as u16,
+            term: (x % 65536) as u16,
+        };
     }
 }
 
@@ -90,51 +60,20 @@ pub fn put(work: &mut [Record], i: usize, a: usize, x: usize)
 pub fn clear(work: &mut [Record])
     ensures { work.new ≡ replicate (length work.old) zeroed }
 {
-    let mut i = 0;
-    while i < work.len() {
-        write(work, i, 0, 0);
-        i += 1;
-    }
-}
-
-// Record i, copied to j.
-fn copy(work: &mut [Record], i: usize, j: usize)
-    requires { i < length work.old }
-    ensures { work.new ≡ set work.old j (get_or work.old i zeroed) }
-{
-    let r = read(work, i);
-    if j < work.len() {
-        write(work, j, r.formula, r.term);
-    }
+    work.fill(Record {
+        formula: 0,
+        term: 0,
+    });
 }
 
 // n records from i on, copied a level up.
 fn copy_run(work: &mut [Record], i: usize, n: usize)
-    requires inside { i + n ≤ length work.old }
-    requires few { length work.old ≤ 65536 }
+    requires inside { i + stretch + n ≤ length work.old }
+    requires few { n ≤ stretch }
+    requires small { length work.old ≤ 65536 }
     ensures { work.new ≡ copies n i work.old }
 {
-    let mut j = i;
-    let mut left = n;
-    while 0 < left {
-        copy(work, j, j + STRETCH);
-        j += 1;
-        left -= 1;
-    }
-}
-
-// The n records after place i, each one place down.
-fn shift_run(work: &mut [Record], i: usize, n: usize)
-    requires { i + n < length work.old }
-    ensures { work.new ≡ shifts n i work.old }
-{
-    let mut j = i;
-    let mut left = n;
-    while 0 < left {
-        copy(work, j + 1, j);
-        j += 1;
-        left -= 1;
-    }
+    work.copy_within(i..i + n, i + STRETCH);
 }
 
 // The records in use, copied a level up.
@@ -165,10 +104,8 @@ pub fn push(work: &mut [Record], sequent: Sequent, a: usize, x: usize) -> Sequen
     let at = sequent.level * STRETCH + STRETCH - 1 - sequent.ordered;
     put(work, at, a, x);
     Sequent {
-        level: sequent.level,
-        unordered: sequent.unordered,
         ordered: sequent.ordered + 1,
-        goal: sequent.goal,
+        ..sequent
     }
 }
 
@@ -178,10 +115,8 @@ pub fn pop(sequent: Sequent) -> Sequent
     ensures { result ≡ popped sequent }
 {
     Sequent {
-        level: sequent.level,
-        unordered: sequent.unordered,
         ordered: sequent.ordered - 1,
-        goal: sequent.goal,
+        ..sequent
     }
 }
 
@@ -194,10 +129,8 @@ pub fn append(work: &mut [Record], sequent: Sequent, a: usize, x: usize) -> Sequ
     let at = sequent.level * STRETCH + sequent.unordered;
     put(work, at, a, x);
     Sequent {
-        level: sequent.level,
         unordered: sequent.unordered + 1,
-        ordered: sequent.ordered,
-        goal: sequent.goal,
+        ..sequent
     }
 }
 
@@ -208,13 +141,11 @@ pub fn remove(work: &mut [Record], sequent: Sequent, i: usize) -> Sequent
     ensures result { result ≡ without sequent }
     ensures work { work.new ≡ removed work.old sequent i }
 {
-    let at = sequent.level * STRETCH + i;
-    shift_run(work, at, sequent.unordered - 1 - i);
+    let first = sequent.level * STRETCH;
+    work.copy_within(first + i + 1..first + sequent.unordered, first + i);
     Sequent {
-        level: sequent.level,
         unordered: sequent.unordered - 1,
-        ordered: sequent.ordered,
-        goal: sequent.goal,
+        ..sequent
     }
 }
 
@@ -225,8 +156,7 @@ pub fn up(sequent: Sequent, goal: usize) -> Sequent
 {
     Sequent {
         level: sequent.level + 1,
-        unordered: sequent.unordered,
-        ordered: sequent.ordered,
         goal,
+        ..sequent
     }
 }

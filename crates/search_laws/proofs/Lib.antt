@@ -1,6 +1,5 @@
 pub mod Tables
 pub mod Same
-pub mod Copies
 pub mod Seat
 pub mod Stretch
 pub mod Write

@@ -18,8 +18,8 @@ use Rattle.search_laws.specs.Keeping.{Same, Inside, Seats}
 use Rattle.search_laws.proofs.Tables.{upto_ext, downto_ext, upto_split, from_ext, upto_length, parts_same}
 use Rattle.search_laws.proofs.Same.{entry_by, ordered_same, inside_same}
 use Rattle.search_laws.proofs.Seat.{unordered_length}
-use Rattle.search_laws.proofs.Copies.{copies_length, copies_below, copies_at}
-use Rattle.search_laws.proofs.Copies.{shifts_length, shifts_below, shifts_above, shifts_at}
+use Rattle.context.proofs.Copies.{copies_length, copies_below, copies_at}
+use Rattle.context.proofs.Copies.{shifts_length, shifts_below, shifts_above, shifts_at}
 
 inside_moved : {nf nt : ℕ} {w w1 : List Rec} (i j : ℕ) → get_or w1 j zeroed ≡ get_or w i zeroed → Inside nf nt w i → Inside nf nt w1 j
 inside_moved {nf} {nt} i j e y = record {

@@ -1,18 +1,8 @@
--- `copy_run` meets its contract: what is left to copy is the same from the loop's place as from its start. Assumes nothing.
-use borrow.Author.Rules.{rules}
-use mathlib.Core.Path.{refl, sym, ◌∙◌}
-use Rattle.context.proofs.Laws.{copies_step, copies_end}
+-- `copy_run` meets its contract: the library's copy, where no copy is copied again. Assumes nothing.
+use native.Mathlib.Omega.{arith}
+use Rattle.context.proofs.Copies.{copied}
 use Rattle.context.proofs.copy_run.Goals as goal
-
-pub loop-left-init : goal.loop-left-init
-loop-left-init c =
-    (search rules, search rules, refl)
-
-pub loop-left-preserved : goal.loop-left-preserved
-loop-left-preserved c =
-    let l = c.loop-left in
-    (search rules, search rules, cc (copies_step l.left l.j l.work c.loop-left-test.true))
 
 pub returns : goal.returns
 returns c =
-    let l = c.loop-left in sym (copies_end l.left l.j l.work c.loop-left-test.false) ∙ l.invariant.2
+    copied c.args.n c.args.i _ _ c.copy_within.ensures.len (omega arith) c.requires.few c.requires.inside c.copy_within.ensures.by_index

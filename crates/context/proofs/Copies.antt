@@ -1,11 +1,16 @@
 -- What stands where after records were copied a level up, or moved one place down. Assumes nothing.
-use Prim.Native.Nat.{ℕ, zero, suc, ◌+◌, ◌<◌, ◌≤◌}
-use mathlib.Core.Path.{◌≡◌, refl, ap, ◌∙◌}
+use Prim.Native.Nat.{ℕ, zero, suc, ◌+◌, ◌-◌, ◌<◌, ◌≤◌}
+use mathlib.Core.Path.{◌≡◌, refl, sym, ap, ◌∙◌}
 use mathlib.Core.List.{List}
+use mathlib.Core.Bool.{Bool, true, false}
 use native.Mathlib.Omega.{arith}
+use lib.Dec.{ltb}
+use borrow.Author.Tests.{ltb-true, ltb-false}
 use native.Mathlib.Nat.{not-suc-le-zero}
 use lib.ListN.{length, get_or, set, length-set}
 use lib.Seq.{get_or-set_same, get_or-set_other}
+use Rattle.std.specs.List.{CopiedTo, SameBelow, SameFrom}
+use Rattle.std.proofs.lemmas.List.{ext_get_or}
 use Rattle.context.specs.Moves.{stretch}
 use Rattle.context.specs.Area.{Rec, zeroed, copies, shifts}
 
@@ -84,3 +89,40 @@ shifts_at (suc n) b (suc k) w h r =
     ∙ shifts_at n (b + 1) k v (omega arith) (omega (arith, length-set w b (get_or w (b + 1) zeroed)))
     ∙ get_or-set_other w b (b + 1 + 1 + k) (get_or w (b + 1) zeroed) zeroed (omega arith)
     ∙ ap (λ (z : ℕ). get_or w z zeroed) (let p : b + 1 + 1 + k ≡ b + 1 + suc k = omega arith in p)
+
+-- a list of the same length is known by its records below a place, among the next n, and after them
+three_parts : (a n : ℕ) (v u : List Rec) → length v ≡ length u → ((j : ℕ) → j < a → get_or v j zeroed ≡ get_or u j zeroed) →
+    ((j : ℕ) → j < n → get_or v (a + j) zeroed ≡ get_or u (a + j) zeroed) →
+    ((j : ℕ) → a + n ≤ j → get_or v j zeroed ≡ get_or u j zeroed) → v ≡ u
+three_parts a n v u long below among above = ext_get_or zeroed v u long (λ j h. first j (ltb j a) refl)
+  where
+    second : (j : ℕ) → a ≤ j → (b : Bool) → ltb j (a + n) ≡ b → get_or v j zeroed ≡ get_or u j zeroed
+    second j h true l =
+        let e : a + (j - a) ≡ j = omega arith in
+        let k : j - a < n = omega (arith, ltb-true j (a + n) l) in
+        cc (among (j - a) k)
+    second j h false l = above j (ltb-false j (a + n) l)
+
+    first : (j : ℕ) → (b : Bool) → ltb j a ≡ b → get_or v j zeroed ≡ get_or u j zeroed
+    first j true l = below j (ltb-true j a l)
+    first j false l = second j (ltb-false j a l) (ltb j (a + n)) refl
+
+-- what the library's copy leaves
+module _ (n i : ℕ) (w v : List Rec) {m : ℕ} (long : length v ≡ length w) (e : m ≡ n) where
+  pub copied : n ≤ stretch → i + stretch + n ≤ length w →
+      CopiedTo w v i (i + stretch) m × SameBelow w v (i + stretch) × SameFrom w v (i + stretch + m) → v ≡ copies n i w
+  copied few room is = three_parts (i + stretch) n v (copies n i w) (long ∙ sym (copies_length n i w))
+      (λ j h. is.1 j zeroed h ∙ sym (copies_below n i j w h))
+      (λ j h. let k : i + stretch + j - (i + stretch) ≡ j = omega arith in
+      is.0 (i + stretch + j) zeroed (omega arith) (omega arith) ∙ ap (λ (z : ℕ). get_or w (i + z) zeroed) k
+      ∙ sym (copies_at n i j w h few room))
+      (λ j h. is.2 j zeroed (omega arith) ∙ sym (copies_above n i j w h))
+
+  pub shifted : i + n < length w →
+      CopiedTo w v (i + 1) i m × SameBelow w v i × SameFrom w v (i + m) → v ≡ shifts n i w
+  shifted room is = three_parts i n v (shifts n i w) (long ∙ sym (shifts_length n i w))
+      (λ j h. is.1 j zeroed h ∙ sym (shifts_below n i j w h))
+      (λ j h. let k : i + j - i ≡ j = omega arith in
+      is.0 (i + j) zeroed (omega arith) (omega arith) ∙ ap (λ (z : ℕ). get_or w (i + 1 + z) zeroed) k
+      ∙ sym (shifts_at n i j w h room))
+      (λ j h. is.2 j zeroed (omega arith) ∙ sym (shifts_above n i j w h))
