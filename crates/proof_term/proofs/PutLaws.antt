@@ -3,17 +3,18 @@ use Prim.Native.Nat.{ℕ, zero, suc, ◌+◌, ◌-◌, ◌*◌, ◌/◌, ◌≤�
 use mathlib.Core.Path.{◌≡◌, refl, sym, ap, ap₂, ◌∙◌}
 use mathlib.Core.Bool.{Bool, true, false}
 use mathlib.Core.List.{List, [], ◌∷◌, ◌++◌, map}
-use native.Mathlib.Numerals.{add-one}
 use native.Mathlib.Nat.{add-suc, add-zero, suc-add}
 use native.Mathlib.Omega.{arith}
 use lib.Dec.{ltb}
-use lib.ListN.{length, get_or, take, drop, set, length-set, length-append, length-map}
+use lib.ListN.{length, get_or, get_or-map, take, drop, set, length-set, length-append, length-map}
 use lib.Seq.{sets, length-sets, sets-eq, get_or-set_same, get_or-set_other, take-set-le, drop-set-lt}
-use lib.Seq.{get_or-take, get_or-drop, take_at, length-take-le}
+use lib.Seq.{get_or-take, get_or-drop, take_at, take_all, length-take-le, paste}
 use borrow.Author.Tests.{lt-ltb, le-ltb}
+use borrow.Rule.Slice.PartMut.{put_mid}
+use Rattle.std.proofs.lemmas.Grind.{same_number_lists}
+use Rattle.std.proofs.lemmas.Slice.{put_mid-paste}
 use Rattle.theory.specs.Layout.{node_width}
 use Rattle.proof_term.specs.Put.{low, put_node}
-use Rattle.proof_term.proofs.Sums.{add_two, add_three, add_four, add_five}
 
 -- with room for the node its numbers are stored, without it nothing is
 pub put_room : (t : List ℕ) (n : ℕ) (xs : List ℕ) → n < length t / node_width → put_node t n xs ≡ sets t (n * node_width) (map low xs)
@@ -24,14 +25,21 @@ pub put_no_room : (t : List ℕ) (n : ℕ) (xs : List ℕ) → length t / node_w
 unfolding put_node
 put_no_room t n xs h = rw (le-ltb n (length t / node_width) h, put_node)
 
--- six stores in a row, each at its own sum, write a node
-pub put_stores : (t : List ℕ) {t₁ t₂ t₃ t₄ t₅ t₆ : List ℕ} (n k a b c d e : ℕ) → n < length t / node_width →
-    t₁ ≡ set t (n * node_width) (low k) → t₂ ≡ set t₁ (n * node_width + 1) (low a) → t₃ ≡ set t₂ (n * node_width + 2) (low b) →
-    t₄ ≡ set t₃ (n * node_width + 3) (low c) → t₅ ≡ set t₄ (n * node_width + 4) (low d) → t₆ ≡ set t₅ (n * node_width + 5) (low e) →
-    t₆ ≡ put_node t n (k ∷ a ∷ b ∷ c ∷ d ∷ e ∷ [])
-put_stores t {t₁} {t₂} {t₃} {t₄} {t₅} {t₆} n k a b c d e h h₁ h₂ h₃ h₄ h₅ h₆ =
-    let m : ℕ = n * node_width in
-    cc (put_room t n (k ∷ a ∷ b ∷ c ∷ d ∷ e ∷ []) h, add-one m, add_two m, add_three m, add_four m, add_five m)
+-- six numbers laid over a node's place, each its own low bits, are a written node
+pub put_laid : (t : List ℕ) (n : ℕ) (xs ys : List ℕ) → n < length t / node_width → length xs ≡ node_width → length ys ≡ node_width →
+    ((k : ℕ) → k < node_width → get_or ys k 0 ≡ low (get_or xs k 0)) →
+    put_mid (n * node_width) (n * node_width + node_width - n * node_width) t ys ≡ put_node t n xs
+put_laid t n xs ys h w l e =
+    let long : length (map low xs) ≡ node_width = length-map xs low ∙ w in
+    let same : ys ≡ map low xs =
+    same_number_lists ys (map low xs) (l ∙ sym long) (λ k b. e k (omega arith) ∙ sym (get_or-map low xs k 0)) in
+    let laid : paste t (n * node_width) (map low xs) (length (map low xs)) ≡ put_node t n xs =
+    ap (λ (zs : List ℕ). take (n * node_width) t ++ zs ++ drop (n * node_width + length (map low xs)) t)
+    (take_all (length (map low xs)) (map low xs) (omega arith))
+    ∙ sym (put_room t n xs h ∙ sets-eq (map low xs) t (n * node_width) (omega arith)) in
+    put_mid-paste (n * node_width) (n * node_width + node_width - n * node_width) t ys (map low xs) node_width same (omega arith) (sym long)
+    ∙ ap (paste t (n * node_width) (map low xs)) (sym long)
+    ∙ laid
 
 -- what holds of a list and of the list after a run of stores holds after a node is written, room or not
 either : (P : List ℕ → Type 0) (t : List ℕ) (n : ℕ) (xs : List ℕ) → P t → P (sets t (n * node_width) (map low xs)) → P (put_node t n xs)

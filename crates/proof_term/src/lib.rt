@@ -1,10 +1,11 @@
 #![tactic(auto)]
 // Term nodes in numbers: the kinds in the order of `ProofTerm`, the one writer of a node, and the layout test of nodes.
-ghost use Rattle.std.specs.Prelude.{◌≡◌, [], ◌∷◌, ◌*◌, ◌<◌, length, get_or, set, take};
+ghost use Rattle.std.specs.Prelude.{◌≡◌, ◌*◌, ◌<◌, length, get_or, take};
+ghost use Rattle.theory.specs.Term.{six_of};
 ghost use Rattle.theory.specs.NameText.{names_in, padded};
 ghost use Rattle.theory.specs.Layout.{node_width, lawful_name, lawful_field, lawful_node};
-ghost use Rattle.proof_term.specs.Kinds.{field_as, Settles};
-ghost use Rattle.proof_term.specs.Put.{low, put_node};
+ghost use Rattle.proof_term.specs.Kinds.{piece_of, field_as, Settles};
+ghost use Rattle.proof_term.specs.Put.{put_node};
 
 use Field::{Child, Formula, Name, Unused};
 
@@ -12,35 +13,75 @@ use Field::{Child, Formula, Name, Unused};
 pub const WIDTH: usize = 6;
 
 // The kinds of nodes, in the order of `ProofTerm`; LetIn (6) and Sorry (13) are none.
-pub const IDENT: usize = 0;
+const IDENT: usize = 0;
 
-pub const PAIR: usize = 1;
+const PAIR: usize = 1;
 
-pub const PROJECT_FST: usize = 2;
+const PROJECT_FST: usize = 2;
 
-pub const PROJECT_SND: usize = 3;
+const PROJECT_SND: usize = 3;
 
-pub const FUNCTION: usize = 4;
+const FUNCTION: usize = 4;
 
-pub const APPLICATION: usize = 5;
+const APPLICATION: usize = 5;
 
-pub const OR_LEFT: usize = 7;
+const OR_LEFT: usize = 7;
 
-pub const OR_RIGHT: usize = 8;
+const OR_RIGHT: usize = 8;
 
-pub const CASE: usize = 9;
+const CASE: usize = 9;
 
-pub const ABORT: usize = 10;
+const ABORT: usize = 10;
 
-pub const ASCRIPTION: usize = 11;
+const ASCRIPTION: usize = 11;
 
-pub const UNIT: usize = 12;
+const UNIT: usize = 12;
 
 // The keywords of the house text one behind another, each with its bracket; a Unit's is the first bracket alone.
 pub const KEYWORDS: [u8; 42] = *b"(pair(fst(snd(fn(app(inl(inr(case(abort(as";
 
+// A node: the nodes below it by their places, names by their numbers, a formula by its index.
+#[derive(Clone, Copy, PartialEq, Eq)]
+pub enum Node {
+    Ident(usize),
+    Pair(usize, usize),
+    ProjectFst(usize),
+    ProjectSnd(usize),
+    Function(usize, usize),
+    Application(usize, usize),
+    OrLeft(usize),
+    OrRight(usize),
+    Case(usize, usize, usize, usize, usize),
+    Abort(usize),
+    Ascription(usize, usize),
+    Unit,
+}
+
+impl Node {
+    // Its kind, its fields, and 0 where it has none.
+    #[tactic(auto, unfolding(theory::specs::Term::six_of))]
+    fn numbers(self) -> [usize; WIDTH]
+        ensures { result ≡ six_of (piece_of self) }
+    {
+        match self {
+            Node::Ident(x) => [IDENT, x, 0, 0, 0, 0],
+            Node::Pair(s, t) => [PAIR, s, t, 0, 0, 0],
+            Node::ProjectFst(t) => [PROJECT_FST, t, 0, 0, 0, 0],
+            Node::ProjectSnd(t) => [PROJECT_SND, t, 0, 0, 0, 0],
+            Node::Function(x, t) => [FUNCTION, x, t, 0, 0, 0],
+            Node::Application(s, t) => [APPLICATION, s, t, 0, 0, 0],
+            Node::OrLeft(t) => [OR_LEFT, t, 0, 0, 0, 0],
+            Node::OrRight(t) => [OR_RIGHT, t, 0, 0, 0, 0],
+            Node::Case(h, x, s, y, t) => [CASE, h, x, s, y, t],
+            Node::Abort(t) => [ABORT, t, 0, 0, 0, 0],
+            Node::Ascription(t, a) => [ASCRIPTION, t, a, 0, 0, 0],
+            Node::Unit => [UNIT, 0, 0, 0, 0, 0],
+        }
+    }
+}
+
 // What a field of a node holds.
-#[derive(Clone, Copy)]
+#[derive(Clone, Copy, PartialEq, Eq)]
 pub enum Field {
     // a name's number
     Name,
@@ -52,89 +93,71 @@ pub enum Field {
     Unused,
 }
 
-// How a kind is printed and what its five fields hold; or that there is no such kind.
+// How a kind is printed and what its fields hold.
 #[derive(Clone, Copy)]
-pub enum Fields {
-    // where the keyword starts and ends in `KEYWORDS`, and the five, first to last. An Ident has no keyword: its name stands alone
-    Held(usize, usize, Field, Field, Field, Field, Field),
-    // there is no such kind
-    Refused,
+pub struct Fields {
+    // where the keyword starts and ends in `KEYWORDS`. An Ident has no keyword: its name stands alone
+    pub start: usize,
+    pub end: usize,
+    // the five, first to last
+    pub held: [Field; 5],
 }
 
 // The one decision over kind numbers, in the order of `ProofTerm`: LetIn (6), Sorry (13) and what lies above are refused. The layout test
 // and the writer of the house text go by it.
-pub fn fields_of(kind: usize) -> Fields
+#[tactic(auto, unfolding(theory::specs::Layout::fields_of, theory::specs::Text::bytes, crate::specs::Kinds::keyword))]
+pub fn fields_of(kind: usize) -> Option<Fields>
     ensures { Settles result kind }
 {
-    match kind {
-        IDENT => Fields::Held(0, 0, Name, Unused, Unused, Unused, Unused),
-        PAIR => Fields::Held(0, 5, Child, Child, Unused, Unused, Unused),
-        PROJECT_FST => Fields::Held(5, 9, Child, Unused, Unused, Unused, Unused),
-        PROJECT_SND => Fields::Held(9, 13, Child, Unused, Unused, Unused, Unused),
-        FUNCTION => Fields::Held(13, 16, Name, Child, Unused, Unused, Unused),
-        APPLICATION => Fields::Held(16, 20, Child, Child, Unused, Unused, Unused),
-        OR_LEFT => Fields::Held(20, 24, Child, Unused, Unused, Unused, Unused),
-        OR_RIGHT => Fields::Held(24, 28, Child, Unused, Unused, Unused, Unused),
-        CASE => Fields::Held(28, 33, Child, Name, Child, Name, Child),
-        ABORT => Fields::Held(33, 39, Child, Unused, Unused, Unused, Unused),
-        ASCRIPTION => Fields::Held(39, 42, Child, Formula, Unused, Unused, Unused),
-        UNIT => Fields::Held(0, 1, Unused, Unused, Unused, Unused, Unused),
-        _ => Fields::Refused,
-    }
+    let (start, end, held) = match kind {
+        IDENT => (0, 0, [Name, Unused, Unused, Unused, Unused]),
+        PAIR => (0, 5, [Child, Child, Unused, Unused, Unused]),
+        PROJECT_FST => (5, 9, [Child, Unused, Unused, Unused, Unused]),
+        PROJECT_SND => (9, 13, [Child, Unused, Unused, Unused, Unused]),
+        FUNCTION => (13, 16, [Name, Child, Unused, Unused, Unused]),
+        APPLICATION => (16, 20, [Child, Child, Unused, Unused, Unused]),
+        OR_LEFT => (20, 24, [Child, Unused, Unused, Unused, Unused]),
+        OR_RIGHT => (24, 28, [Child, Unused, Unused, Unused, Unused]),
+        CASE => (28, 33, [Child, Name, Child, Name, Child]),
+        ABORT => (33, 39, [Child, Unused, Unused, Unused, Unused]),
+        ASCRIPTION => (39, 42, [Child, Formula, Unused, Unused, Unused]),
+        UNIT => (0, 1, [Unused, Unused, Unused, Unused, Unused]),
+        _ => return None,
+    };
+    Some(Fields { start, end, held })
 }
 
 // Number i of the nodes; 0 out of range.
 pub fn number(terms: &[u16], i: usize) -> usize
     ensures { result ≡ get_or terms.now i 0 }
 {
-    if i < terms.len() {
-        terms[i] as usize
-    } else {
-        0
-    }
+    usize::from(terms.get(i).copied().unwrap_or(0))
 }
 
-// Number i of the nodes becomes the low 16 bits of x; nothing is written out of range.
-fn store(terms: &mut [u16], i: usize, x: usize)
-    ensures { terms.new ≡ set terms.old i (low x) }
+// Writes node n as these numbers, where the slice has room for the whole of it; each number becomes its low 16 bits.
+pub fn put_numbers(terms: &mut [u16], n: usize, numbers: [usize; WIDTH])
+    ensures { terms.new ≡ put_node terms.old n numbers }
 {
-    if i < terms.len() {
-        terms[i] = (x % 65536) as u16;
+    if n < terms.len() / WIDTH {
+        let at = n * WIDTH;
+        terms[at..at + WIDTH].copy_from_slice(&numbers.map(|x| (x % 65536) as u16));
     }
 }
 
 // Writes node n, where the slice has room for the whole of it.
-pub fn put(
-    terms: &mut [u16],
-    n: usize,
-    kind: usize,
-    a: usize,
-    b: usize,
-    c: usize,
-    d: usize,
-    e: usize,
-)
-    ensures { terms.new ≡ put_node terms.old n (kind ∷ a ∷ b ∷ c ∷ d ∷ e ∷ []) }
+pub fn put(terms: &mut [u16], n: usize, node: Node)
+    ensures { terms.new ≡ put_node terms.old n (six_of (piece_of node)) }
 {
-    if n < terms.len() / WIDTH {
-        let at = n * WIDTH;
-        store(terms, at, kind);
-        store(terms, at + 1, a);
-        store(terms, at + 2, b);
-        store(terms, at + 3, c);
-        store(terms, at + 4, d);
-        store(terms, at + 5, e);
-    }
+    put_numbers(terms, n, node.numbers());
 }
 
 // The numbers from `from` on become 0.
+#[tactic(auto, unfolding(theory::specs::NameText::padded))]
 pub fn clear(terms: &mut [u16], from: usize)
     ensures { terms.new ≡ padded (length terms.old) (take from terms.old) }
 {
-    let mut i = from;
-    while i < terms.len() {
-        terms[i] = 0;
-        i += 1;
+    if from < terms.len() {
+        terms[from..].fill(0);
     }
 }
 
@@ -155,6 +178,7 @@ pub fn count_names(text: &[u8]) -> usize
 }
 
 // Whether x is a name's number: that of one of the text's `names` names, or of a generated one that none of them is spelled like.
+#[tactic(auto, unfolding(theory::specs::Layout::lawful_name))]
 fn lawful_name(x: usize, names: usize, text: &[u8]) -> bool
     requires { names ≡ length (names_in text.now) }
     ensures { result ≡ lawful_name (names_in text.now) x }
@@ -163,26 +187,15 @@ fn lawful_name(x: usize, names: usize, text: &[u8]) -> bool
         return x < names;
     }
     let g = x - identifier_generator::GENERATED;
-    if identifier_generator::LAST_INDEX < g {
-        return false;
-    }
-    !identifier_generator::spelled_like(text, g)
+    g <= identifier_generator::LAST_INDEX && !identifier_generator::spelled_like(text, g)
 }
 
-// Whether number `at` may stand in such a field of node i, over `count` formulas.
-fn lawful_field(
-    field: Field,
-    terms: &[u16],
-    at: usize,
-    i: usize,
-    count: usize,
-    names: usize,
-    text: &[u8],
-) -> bool
+// Whether number x may stand in such a field of node i, over `count` formulas.
+#[tactic(auto, unfolding(theory::specs::Layout::lawful_field))]
+fn lawful_field(field: Field, x: usize, i: usize, count: usize, names: usize, text: &[u8]) -> bool
     requires { names ≡ length (names_in text.now) }
-    ensures { result ≡ lawful_field (names_in text.now) count i (field_as field) (get_or terms.now at 0) }
+    ensures { result ≡ lawful_field (names_in text.now) count i (field_as field) x }
 {
-    let x = number(terms, at);
     match field {
         Name => lawful_name(x, names, text),
         Child => x < i,
@@ -198,13 +211,10 @@ pub fn lawful_node(terms: &[u16], i: usize, count: usize, names: usize, text: &[
     ensures { result ≡ lawful_node (names_in text.now) count terms.now i }
 {
     let at = i * WIDTH;
-    let Fields::Held(_, _, a, b, c, d, e) = fields_of(number(terms, at)) else {
+    let Some(fields) = fields_of(number(terms, at)) else {
         return false;
     };
-    let first = lawful_field(a, terms, at + 1, i, count, names, text);
-    let second = lawful_field(b, terms, at + 2, i, count, names, text);
-    let third = lawful_field(c, terms, at + 3, i, count, names, text);
-    let fourth = lawful_field(d, terms, at + 4, i, count, names, text);
-    let fifth = lawful_field(e, terms, at + 5, i, count, names, text);
-    first & second & third & fourth & fifth
+    fields.held.iter().enumerate().all(|(k, field)| {
+        lawful_field(*field, number(terms, at + 1 + k), i, count, names, text)
+    })
 }
