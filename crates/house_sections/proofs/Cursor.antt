@@ -9,29 +9,28 @@ use lib.Dec.{ltb}
 use lib.ListN.{length, get_or, take, drop, length-drop}
 use lib.Seq.{get_or-drop, drop-drop}
 use Rattle.theory.specs.File.{little_endian}
-use Rattle.house_sections.specs.declared.End.{End}
-use Rattle.house_sections.specs.declared.End.TheVariants.{Cut}
+use Rattle.std.specs.Prelude.{Option, None}
 use Rattle.house_sections.specs.Held.{numbers_from, entry_bytes, indices_from, text_from, entries_end, Whole}
 
 -- n + 1 assumptions from the tests of the first
 module _ (at n : ℕ) (bs : List ℕ) where
-  abbrev later : End
+  abbrev later : Option ℕ
   later = entries_end (at + entry_bytes bs) n (drop (entry_bytes bs) bs)
 
-  abbrev by_name : Bool → End
-  by_name t = elim t [ true ↦ Cut | false ↦ later ]
+  abbrev by_name : Bool → Option ℕ
+  by_name t = elim t [ true ↦ None | false ↦ later ]
 
-  abbrev by_index : Bool → End
-  by_index t = elim t [ true ↦ Cut | false ↦ by_name (ltb (length bs) (entry_bytes bs)) ]
+  abbrev by_index : Bool → Option ℕ
+  by_index t = elim t [ true ↦ None | false ↦ by_name (ltb (length bs) (entry_bytes bs)) ]
 
   ends_by : entries_end at (suc n) bs ≡ by_index (ltb (length bs) 3)
   unfolding entries_end
   ends_by = refl
 
-  index_short : length bs < 3 → entries_end at (suc n) bs ≡ Cut
+  index_short : length bs < 3 → entries_end at (suc n) bs ≡ None
   index_short h = ends_by ∙ ap by_index (lt-ltb (length bs) 3 h)
 
-  name_short : 3 ≤ length bs → length bs < entry_bytes bs → entries_end at (suc n) bs ≡ Cut
+  name_short : 3 ≤ length bs → length bs < entry_bytes bs → entries_end at (suc n) bs ≡ None
   name_short h l =
       ends_by ∙ ap by_index (le-ltb (length bs) 3 h) ∙ ap by_name (lt-ltb (length bs) (entry_bytes bs) l)
 
@@ -65,12 +64,12 @@ module _ (file : List ℕ) (at : ℕ) where
     one_less : left ≡ suc (left - 1)
     one_less = omega arith
 
-    pub index_missing : length file - at < 3 → entries_end at left (drop at file) ≡ Cut
+    pub index_missing : length file - at < 3 → entries_end at left (drop at file) ≡ None
     index_missing h =
         ap (λ (n : ℕ). entries_end at n (drop at file)) one_less
         ∙ index_short at (left - 1) (drop at file) (omega (arith, length-drop at file))
 
-    pub name_missing : 3 ≤ length file - at → length file - at < size_at → entries_end at left (drop at file) ≡ Cut
+    pub name_missing : 3 ≤ length file - at → length file - at < size_at → entries_end at left (drop at file) ≡ None
     name_missing h l =
         ap (λ (n : ℕ). entries_end at n (drop at file)) one_less
         ∙ name_short at (left - 1) (drop at file) (omega (arith, length-drop at file)) (omega (arith, length-drop at file, size_is))

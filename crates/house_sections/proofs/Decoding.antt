@@ -11,17 +11,15 @@ use lib.ListN.{length, take, drop, length-drop}
 use lib.Seq.{drop-drop}
 use Rattle.theory.specs.File.{little_endian, cut_numbers, cut_section, formula_count, assumption_count}
 use Rattle.theory.specs.File.{Assumptions, cut_assumptions, File, cut_goals, cut_rules, decoded}
-use Rattle.house_sections.specs.declared.End.{End}
-use Rattle.house_sections.specs.declared.End.TheVariants.{Cut, At}
-use Rattle.house_sections.specs.declared.Goal.TheVariants.{Missing, Index}
-use Rattle.house_sections.specs.declared.Sections.TheVariants.{BadFile, Held}
-use Rattle.house_sections.specs.Held.{numbers_from, indices_from, text_from, entries_end, Whole, goal_in, held_by, Seen}
+use Rattle.std.specs.Prelude.{None, Some}
+use Rattle.std.specs.Prelude as rust
+use Rattle.house_sections.specs.Held.{numbers_from, indices_from, text_from, entries_end, goal_in, held_by}
 use Rattle.house_sections.proofs.Cutting.{numbers_fit, numbers_cut, count_cut, count_lawful, count_unlawful}
-use Rattle.house_sections.proofs.Entries.{up_to_end, Ended, ended}
+use Rattle.house_sections.proofs.Entries.{up_to_end, Inside, ended}
 use Rattle.house_sections.proofs.Goals.{file_with, goals_cut}
 
 -- 14
-pub bad_file : (bs : List ℕ) → decoded bs ≡ none → held_by BadFile bs ≡ decoded bs
+pub bad_file : (bs : List ℕ) → decoded bs ≡ none → held_by None bs ≡ decoded bs
 unfolding held_by
 bad_file bs e = sym e
 
@@ -103,63 +101,72 @@ module _ (bs : List ℕ) (small : length bs ≤ 32768) where
             words_is (omega arith) ∙ ap (after_many words)
             (count_unlawful assumption_count (drop (4 + 4 * n - 2) bs) room (ap (λ (k : ℕ). leb k 64) (sym many) ∙ lt-leb m 64 h))
 
-        module _ (few_assumptions : m ≤ 64) where
-          abbrev entries : List ℕ
-          entries = drop (4 + 4 * n) bs
+-- the counts of both sections stand there and are lawful
+pub record Counted (bs : List ℕ) (n m : ℕ) : Type 0 where
+  pub small : length bs ≤ 32768
+  pub two : 2 ≤ length bs
+  pub formulas : n ≡ little_endian (take 2 bs)
+  pub few_formulas : n ≤ 4096
+  pub inside : 4 + 4 * n ≤ length bs
+  pub assumptions : m ≡ little_endian (take 2 (drop (4 + 4 * n - 2) bs))
+  pub few_assumptions : m ≤ 64
 
-          rules_is : decoded bs ≡ after_assumptions words (cut_assumptions m entries)
-          unfolding cut_rules assumption_count
-          rules_is =
-              let behind : 4 + 4 * n - 2 + 2 ≡ 4 + 4 * n = omega arith in
-              words_is (omega arith)
-              ∙ ap (after_many words)
-              (count_lawful assumption_count (drop (4 + 4 * n - 2) bs) room
-              (ap (λ (k : ℕ). leb k 64) (sym many) ∙ le-leb m 64 few_assumptions))
-              ∙ ap₂ (λ (k : ℕ) (r : List ℕ). after_assumptions words (cut_assumptions k r)) (sym many)
-              (drop-drop 2 (4 + 4 * n - 2) bs ∙ ap (λ (k : ℕ). drop k bs) behind)
+module _ (bs : List ℕ) (n m : ℕ) (k : Counted bs n m) where
+  abbrev formula_words : List ℕ
+  formula_words = numbers_from 4 n (drop 2 bs)
 
-          pub cut_assumptions_lem : Cut ≡ entries_end (4 + 4 * n) m entries → decoded bs ≡ none
-          cut_assumptions_lem e =
-              rules_is ∙ ap (after_assumptions words)
-              ((ended m (4 + 4 * n) entries).1 ∙ ap (λ (x : End). up_to_end x (4 + 4 * n) m entries) (sym e))
+  abbrev entries : List ℕ
+  entries = drop (4 + 4 * n) bs
 
-          module _ (at : ℕ) (e : At at ≡ entries_end (4 + 4 * n) m entries) where
-            end_inside : (4 + 4 * n ≤ at) × (at ≤ 4 + 4 * n + length entries)
-            end_inside = go (entries_end (4 + 4 * n) m entries) e (ended m (4 + 4 * n) entries)
-              where
-                go : (x : End) → At at ≡ x → Ended m (4 + 4 * n) entries x → (4 + 4 * n ≤ at) × (at ≤ 4 + 4 * n + length entries)
-                go Cut p d = absurd (let z : ◌≡◌ {A = ℕ} 0 1 = cc in omega arith)
-                go (At place) p d =
-                    let q : at ≡ place = cc in
-                    subst (λ (k : ℕ). (4 + 4 * n ≤ k) × (k ≤ 4 + 4 * n + length entries)) (sym q) d.0
+  rules_is : decoded bs ≡ after_assumptions formula_words (cut_assumptions m entries)
+  unfolding cut_rules assumption_count
+  rules_is =
+      let behind : 4 + 4 * n - 2 + 2 ≡ 4 + 4 * n = omega arith in
+      words_is bs k.small n k.two k.formulas k.few_formulas (omega (arith, k.inside))
+      ∙ ap (after_many formula_words)
+      (count_lawful assumption_count (drop (4 + 4 * n - 2) bs)
+      (room bs k.small n k.two k.formulas k.few_formulas m k.inside k.assumptions)
+      (ap (λ (j : ℕ). leb j 64) (sym k.assumptions) ∙ le-leb m 64 k.few_assumptions))
+      ∙ ap₂ (λ (j : ℕ) (r : List ℕ). after_assumptions formula_words (cut_assumptions j r)) (sym k.assumptions)
+      (drop-drop 2 (4 + 4 * n - 2) bs ∙ ap (λ (j : ℕ). drop j bs) behind)
 
-            pub at_inside : at ≤ length bs
-            at_inside = omega (arith, end_inside.1, length-drop (4 + 4 * n) bs)
+  -- what stands behind the assumptions, by where they end
+  end_is : (x : rust.Option ℕ) → x ≡ entries_end (4 + 4 * n) m entries →
+      decoded bs ≡ after_assumptions formula_words (up_to_end x (4 + 4 * n) m entries)
+  end_is x e =
+      rules_is ∙ ap (after_assumptions formula_words)
+      ((ended m (4 + 4 * n) entries).1 ∙ ap (λ (y : rust.Option ℕ). up_to_end y (4 + 4 * n) m entries) (sym e))
 
-            abbrev before : Assumptions
-            before = record { indices = indices_from m entries; text = text_from m entries; rest = drop at bs }
+  pub cut_assumptions_lem : None ≡ entries_end (4 + 4 * n) m entries → decoded bs ≡ none
+  cut_assumptions_lem e = end_is None e
 
-            goals_is : decoded bs ≡ file_with words before (goal_in (drop at bs))
-            goals_is =
-                let behind : 4 + 4 * n + (at - (4 + 4 * n)) ≡ at = omega (arith, end_inside.0) in
-                rules_is ∙ ap (after_assumptions words)
-                ((ended m (4 + 4 * n) entries).1 ∙ ap (λ (x : End). up_to_end x (4 + 4 * n) m entries) (sym e))
-                ∙ ap (λ (r : List ℕ). cut_goals words (record { indices = indices_from m entries; text = text_from m entries; rest = r }))
-                (drop-drop (at - (4 + 4 * n)) (4 + 4 * n) bs ∙ ap (λ (k : ℕ). drop k bs) behind)
-                ∙ goals_cut words (indices_from m entries) (text_from m entries) (drop at bs)
+  module _ (at : ℕ) (e : Some at ≡ entries_end (4 + 4 * n) m entries) where
+    end_inside : (4 + 4 * n ≤ at) × (at ≤ 4 + 4 * n + length entries)
+    end_inside =
+        subst (λ (x : rust.Option ℕ). Inside x (4 + 4 * n) entries) (sym e) (ended m (4 + 4 * n) entries).0
 
-            pub no_goal : Missing ≡ goal_in (drop at bs) → decoded bs ≡ none
-            no_goal g = goals_is ∙ ap (file_with words before) (sym g)
+    pub at_inside : at ≤ length bs
+    at_inside = omega (arith, end_inside.1, k.inside, length-drop (4 + 4 * n) bs)
 
-            pub is_held : (goal : ℕ) → Index goal ≡ goal_in (drop at bs) → held_by (Held n m goal) bs ≡ decoded bs
-            unfolding held_by
-            is_held goal g = sym (goals_is ∙ ap (file_with words before) (sym g))
+    abbrev before : Assumptions
+    before = record { indices = indices_from m entries; text = text_from m entries; rest = drop at bs }
 
-            pub is_seen : Seen n m bs
-            is_seen = record {
-              small = small;
-              few_formulas = few;
-              inside = inside;
-              few_assumptions = few_assumptions;
-              whole = subst Whole e tt;
-            }
+    goals_is : decoded bs ≡ file_with formula_words before (goal_in (drop at bs))
+    goals_is =
+        let behind : 4 + 4 * n + (at - (4 + 4 * n)) ≡ at = omega (arith, end_inside.0) in
+        end_is (Some at) e
+        ∙ ap (λ (r : List ℕ). cut_goals formula_words (record {
+          indices = indices_from m entries;
+          text = text_from m entries;
+          rest = r;
+        }))
+        (drop-drop (at - (4 + 4 * n)) (4 + 4 * n) bs ∙ ap (λ (j : ℕ). drop j bs) behind)
+        ∙ goals_cut formula_words (indices_from m entries) (text_from m entries) (drop at bs)
+
+    pub no_goal : None ≡ goal_in (drop at bs) → decoded bs ≡ none
+    no_goal g = goals_is ∙ ap (file_with formula_words before) (sym g)
+
+    pub is_held : (goal : ℕ) → Some goal ≡ goal_in (drop at bs) →
+        held_by (Some (record { formulas = n; assumptions = m; goal = goal })) bs ≡ decoded bs
+    unfolding held_by
+    is_held goal g = sym (goals_is ∙ ap (file_with formula_words before) (sym g))

@@ -11,8 +11,8 @@ use lib.ListN.{length, get_or, take, drop, length-drop}
 use lib.Seq.{drop-drop}
 use Rattle.theory.specs.File.{little_endian, cut_bytes, cut_number}
 use Rattle.theory.specs.File.{Assumptions, cut_assumptions}
-use Rattle.house_sections.specs.declared.End.{End}
-use Rattle.house_sections.specs.declared.End.TheVariants.{Cut, At}
+use Rattle.std.specs.Prelude.{None, Some}
+use Rattle.std.specs.Prelude as rust
 use Rattle.house_sections.specs.Held.{entry_bytes, indices_from, text_from, entries_end}
 use Rattle.house_sections.proofs.Cutting.{bytes_fit, bytes_cut, number_fits}
 
@@ -105,24 +105,24 @@ module _ (n : ℕ) where
       ]) text
 
 -- what the end tells of the assumptions
-abbrev pub up_to_end : End → ℕ → ℕ → List ℕ → Option Assumptions
-up_to_end Cut at n bs = none
-up_to_end (At place) at n bs = some (record { indices = indices_from n bs; text = text_from n bs; rest = drop (place - at) bs })
+abbrev pub up_to_end : rust.Option ℕ → ℕ → ℕ → List ℕ → Option Assumptions
+up_to_end None at n bs = none
+up_to_end (Some place) at n bs = some (record { indices = indices_from n bs; text = text_from n bs; rest = drop (place - at) bs })
 
 -- an end is no earlier than the start, and inside the bytes
-abbrev pub Inside : End → ℕ → List ℕ → Type 0
-Inside Cut at bs = Unit {0}
-Inside (At place) at bs = (at ≤ place) × (place ≤ at + length bs)
+abbrev pub Inside : rust.Option ℕ → ℕ → List ℕ → Type 0
+Inside None at bs = Unit {0}
+Inside (Some place) at bs = (at ≤ place) × (place ≤ at + length bs)
 
-abbrev pub Ended : ℕ → ℕ → List ℕ → End → Type 0
+abbrev pub Ended : ℕ → ℕ → List ℕ → rust.Option ℕ → Type 0
 Ended n at bs e = Inside e at bs × (cut_assumptions n bs ≡ up_to_end e at n bs)
 
 -- an end behind the first assumption is one of all
-later_end : (n at : ℕ) (bs : List ℕ) (e : End) → 3 ≤ length bs → entry_bytes bs ≤ length bs →
+later_end : (n at : ℕ) (bs : List ℕ) (e : rust.Option ℕ) → 3 ≤ length bs → entry_bytes bs ≤ length bs →
     Ended n (at + entry_bytes bs) (drop (entry_bytes bs) bs) e → Ended (suc n) at bs e
 unfolding indices_from text_from
-later_end n at bs Cut h l d = (tt, entry_cut n bs h l ∙ ap (joined_to n bs) d.1)
-later_end n at bs (At place) h l d =
+later_end n at bs None h l d = (tt, entry_cut n bs h l ∙ ap (joined_to n bs) d.1)
+later_end n at bs (Some place) h l d =
     let long = length-drop (entry_bytes bs) bs in
     let far : at ≤ place = omega (arith, d.0.0) in
     let near : place ≤ at + length bs = omega (arith, d.0.1) in
@@ -136,7 +136,7 @@ later_end n at bs (At place) h l d =
     )
 
 -- no assumption ends where it starts
-no_more : (at : ℕ) (bs : List ℕ) → cut_assumptions 0 bs ≡ up_to_end (At at) at 0 bs
+no_more : (at : ℕ) (bs : List ℕ) → cut_assumptions 0 bs ≡ up_to_end (Some at) at 0 bs
 unfolding cut_assumptions indices_from text_from
 no_more at bs =
     let here : 0 ≡ at - at = omega arith in
@@ -149,7 +149,7 @@ ended (suc n) at bs = index (ltb (length bs) 3) refl (ended n (at + entry_bytes 
   where
     name : (t : Bool) → ltb (length bs) (entry_bytes bs) ≡ t → 3 ≤ length bs →
         Ended n (at + entry_bytes bs) (drop (entry_bytes bs) bs) (entries_end (at + entry_bytes bs) n (drop (entry_bytes bs) bs)) →
-        Ended (suc n) at bs (elim t [ true ↦ Cut | false ↦ entries_end (at + entry_bytes bs) n (drop (entry_bytes bs) bs) ])
+        Ended (suc n) at bs (elim t [ true ↦ None | false ↦ entries_end (at + entry_bytes bs) n (drop (entry_bytes bs) bs) ])
     name true e h d = (tt, name_cut n bs h (ltb-true (length bs) (entry_bytes bs) e))
     name false e h d =
         later_end n at bs (entries_end (at + entry_bytes bs) n (drop (entry_bytes bs) bs)) h (ltb-false (length bs) (entry_bytes bs) e) d
@@ -157,9 +157,9 @@ ended (suc n) at bs = index (ltb (length bs) 3) refl (ended n (at + entry_bytes 
     index : (t : Bool) → ltb (length bs) 3 ≡ t →
         Ended n (at + entry_bytes bs) (drop (entry_bytes bs) bs) (entries_end (at + entry_bytes bs) n (drop (entry_bytes bs) bs)) →
         Ended (suc n) at bs (elim t [
-          | true ↦ Cut
+          | true ↦ None
           | false ↦ elim (ltb (length bs) (entry_bytes bs)) [
-            | true ↦ Cut
+            | true ↦ None
             | false ↦ entries_end (at + entry_bytes bs) n (drop (entry_bytes bs) bs)
           ]
         ])

@@ -11,21 +11,22 @@ use lib.ListN.{length, take, drop, length-drop}
 use lib.Seq.{drop-drop}
 use Rattle.theory.specs.File.{little_endian, cut_bytes, cut_number, cut_numbers, cut_count, cut_section, goal_count, Assumptions}
 use Rattle.theory.specs.File.{File, cut_goals}
-use Rattle.house_sections.specs.declared.Goal.{Goal}
-use Rattle.house_sections.specs.declared.Goal.TheVariants.{Missing, Index}
+use Rattle.std.specs.Prelude.{None, Some}
+use Rattle.std.specs.Prelude as rust
+use Rattle.std.specs.Bool.{then_some}
 use Rattle.house_sections.specs.Held.{numbers_from, goal_in}
 use Rattle.house_sections.proofs.Cutting.{numbers_fit, count_lawful, count_unlawful}
 
 -- the tests one after the other
 module _ (bs : List ℕ) where
-  abbrev by_count : Bool → Goal
-  by_count t = elim t [ false ↦ Missing | true ↦ Index (little_endian (take 2 (drop 2 bs))) ]
+  abbrev by_count : Bool → rust.Option ℕ
+  by_count t = elim t [ false ↦ None | true ↦ Some (little_endian (take 2 (drop 2 bs))) ]
 
-  abbrev by_length : Bool → Goal
-  by_length t = elim t [ false ↦ Missing | true ↦ by_count (eqb (little_endian (take 2 bs)) 1) ]
+  abbrev by_length : Bool → rust.Option ℕ
+  by_length t = elim t [ false ↦ None | true ↦ by_count (eqb (little_endian (take 2 bs)) 1) ]
 
 module _ (file : List ℕ) (at : ℕ) where
-  pub other_length : (length file - at ≡ 4 → ⊥) → Missing ≡ goal_in (drop at file)
+  pub other_length : (length file - at ≡ 4 → ⊥) → None ≡ goal_in (drop at file)
   unfolding goal_in
   other_length h =
       sym (ap (by_length (drop at file)) (ne_eqb (length (drop at file)) 4 (λ e. h (sym (length-drop at file) ∙ e))))
@@ -34,24 +35,22 @@ module _ (file : List ℕ) (at : ℕ) where
     four : eqb (length (drop at file)) 4 ≡ true
     four = eq-eqb (length (drop at file)) 4 (length-drop at file ∙ h)
 
-    pub other_count : (n ≡ 1 → ⊥) → Missing ≡ goal_in (drop at file)
+    pub counted_goal : (goal : ℕ) → goal ≡ little_endian (take 2 (drop (at + 2) file)) →
+        then_some (eqb n 1) goal ≡ goal_in (drop at file)
     unfolding goal_in
-    other_count l =
-        sym (ap (by_length (drop at file)) four
-        ∙ ap (by_count (drop at file)) (ne_eqb (little_endian (take 2 (drop at file))) 1 (λ p. l (e ∙ p))))
-
-    pub one_goal : (goal : ℕ) → n ≡ 1 → goal ≡ little_endian (take 2 (drop (at + 2) file)) → Index goal ≡ goal_in (drop at file)
-    unfolding goal_in
-    one_goal goal l g =
-        sym (ap (by_length (drop at file)) four
-        ∙ ap (by_count (drop at file)) (eq-eqb (little_endian (take 2 (drop at file))) 1 (sym e ∙ l))
-        ∙ ap (λ (bs : List ℕ). Index (little_endian (take 2 bs))) (drop-drop 2 at file)
-        ∙ ap Index (sym g))
+    counted_goal goal g =
+        by_test (eqb n 1)
+        ∙ ap (λ (k : ℕ). by_count (drop at file) (eqb k 1)) e
+        ∙ sym (ap (by_length (drop at file)) four)
+      where
+        by_test : (t : Bool) → then_some t goal ≡ by_count (drop at file) t
+        by_test true = ap Some (g ∙ ap (λ (bs : List ℕ). little_endian (take 2 bs)) (sym (drop-drop 2 at file)))
+        by_test false = refl
 
 -- the file that a goal makes of the sections before it
-abbrev pub file_with : List ℕ → Assumptions → Goal → Option File
-file_with words more Missing = none
-file_with words more (Index goal) = some (record { words = words; indices = more.indices; text = more.text; goals = goal ∷ [] })
+abbrev pub file_with : List ℕ → Assumptions → rust.Option ℕ → Option File
+file_with words more None = none
+file_with words more (Some goal) = some (record { words = words; indices = more.indices; text = more.text; goals = goal ∷ [] })
 
 module _ (words : List ℕ) (indices text : List ℕ) where
   abbrev assumed : List ℕ → Assumptions

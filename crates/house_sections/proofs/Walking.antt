@@ -50,12 +50,13 @@ pub record Indices (file : List ℕ) (from count : ℕ) (before : List ℕ) (at 
   pub whole : Whole (entries_end at (count - i) (drop at file))
   pub filling : Filling (indices_from count (drop from file)) (indices_from (count - i) (drop at file)) before i indices
 
--- their names are copied, and so many are left
-pub record Names (file : List ℕ) (from count : ℕ) (before : List ℕ) (at filled left : ℕ) (text : List ℕ) : Type 0 where
+-- the names of i assumptions are copied
+pub record Names (file : List ℕ) (from count : ℕ) (before : List ℕ) (at filled i : ℕ) (text : List ℕ) : Type 0 where
   pub inside : at ≤ length file
   pub within : filled ≤ at
-  pub whole : Whole (entries_end at left (drop at file))
-  pub filling : Filling (text_from count (drop from file)) (text_from left (drop at file)) before filled text
+  pub few : i ≤ count
+  pub whole : Whole (entries_end at (count - i) (drop at file))
+  pub filling : Filling (text_from count (drop from file)) (text_from (count - i) (drop at file)) before filled text
 
 module _ (file : List ℕ) (from count : ℕ) (before : List ℕ) where
   pub no_indices : from ≤ length file → Whole (entries_end from count (drop from file)) → Indices file from count before from 0 before
@@ -101,57 +102,75 @@ module _ (file : List ℕ) (from count : ℕ) (before : List ℕ) where
               ∙ ap₂ (λ (x n : ℕ). x ∷ indices_from n (drop (at + size_at file at) file)) (sym e) fewer) f.filling) (omega arith);
         }
 
-  pub no_names : from ≤ length file → Whole (entries_end from count (drop from file)) → Names file from count before from 0 count before
+  pub no_names : from ≤ length file → Whole (entries_end from count (drop from file)) → Names file from count before from 0 0 before
   no_names h w =
-      record { inside = h; within = omega arith; whole = w; filling = none_filled (text_from count (drop from file)) before }
+      let all : count ≡ count - 0 = omega arith in
+      record {
+        inside = h;
+        within = omega arith;
+        few = omega arith;
+        whole = subst (λ (n : ℕ). Whole (entries_end from n (drop from file))) all w;
+        filling = subst (λ (n : ℕ). Filling (text_from count (drop from file)) (text_from n (drop from file)) before 0 before) all
+            (none_filled (text_from count (drop from file)) before);
+      }
 
-  pub names_copied : (at filled left : ℕ) (text : List ℕ) → Names file from count before at filled left text → left ≤ 0 →
-      (text ≡ laid_over (text_from count (drop from file)) before) × (filled ≡ length (text_from count (drop from file)))
-  unfolding text_from
-  names_copied at filled left text f h =
-      let none : left ≡ 0 = omega arith in
-      let all : Filling (text_from count (drop from file)) [] before filled text =
-      subst (λ (n : ℕ). Filling (text_from count (drop from file)) (text_from n (drop at file)) before filled text) none f.filling in
-      (all_filled all, filled_size all)
+  module _ (at filled i : ℕ) (text : List ℕ) (f : Names file from count before at filled i text) where
+    pub names_copied : count ≤ i →
+        (text ≡ laid_over (text_from count (drop from file)) before) × (filled ≡ length (text_from count (drop from file)))
+    unfolding text_from
+    names_copied h =
+        let none : count - i ≡ 0 = omega arith in
+        let all : Filling (text_from count (drop from file)) [] before filled text =
+        subst (λ (n : ℕ). Filling (text_from count (drop from file)) (text_from n (drop at file)) before filled text) none f.filling in
+        (all_filled all, filled_size all)
 
-  module _ (at filled left : ℕ) (text : List ℕ) (f : Names file from count before at filled left text) (h : 0 < left) where
-    pub name_inside : at + size_at file at ≤ length file
-    name_inside = omega (arith, f.inside, entry_inside file at left h f.whole)
+    module _ (h : i < count) where
+      some_left_names : 0 < count - i
+      some_left_names = omega arith
 
-    -- the length byte and the name, as the code cuts them out
-    abbrev pub name_part : List ℕ
-    name_part = take (at + 2 + (get_or file (at + 2) 0 + 1) - (at + 2)) (drop (at + 2) file)
+      pub name_inside : at + size_at file at ≤ length file
+      name_inside = omega (arith, f.inside, entry_inside file at (count - i) some_left_names f.whole)
 
-    part_is : name_part ≡ take (get_or file (at + 2) 0 + 1) (drop (at + 2) file)
-    part_is =
-        let size : at + 2 + (get_or file (at + 2) 0 + 1) - (at + 2) ≡ get_or file (at + 2) 0 + 1 = omega arith in
-        ap (λ (k : ℕ). take k (drop (at + 2) file)) size
+      -- the length byte and the name, as the code cuts them out
+      abbrev pub name_part : List ℕ
+      name_part = take (at + 2 + (get_or file (at + 2) 0 + 1) - (at + 2)) (drop (at + 2) file)
 
-    pub part_size : length name_part ≡ get_or file (at + 2) 0 + 1
-    part_size =
-        ap length part_is
-        ∙ length-take-le (get_or file (at + 2) 0 + 1) (drop (at + 2) file) (omega (arith, length-drop (at + 2) file, name_inside))
+      part_is : name_part ≡ take (get_or file (at + 2) 0 + 1) (drop (at + 2) file)
+      part_is =
+          let size : at + 2 + (get_or file (at + 2) 0 + 1) - (at + 2) ≡ get_or file (at + 2) 0 + 1 = omega arith in
+          ap (λ (k : ℕ). take k (drop (at + 2) file)) size
 
-    pub name_copied : (after : List ℕ) → length file ≤ length before → after ≡ paste text filled name_part (length name_part) →
-        Names file from count before (at + 2 + (get_or file (at + 2) 0 + 1)) (filled + (get_or file (at + 2) 0 + 1)) (left - 1) after
-    name_copied after room e =
-        let place : at + size_at file at ≡ at + 2 + (get_or file (at + 2) 0 + 1) = omega arith in
-        let next : Filling (text_from count (drop from file)) (text_from (left - 1) (drop (at + size_at file at) file)) before
-        (filled + length name_part) (paste text filled name_part (length name_part)) =
-        part_filled name_part (subst (λ (more : List ℕ). Filling (text_from count (drop from file)) more before filled text)
-        (next_name_lem file at left h
-        ∙ ap (λ (xs : List ℕ). xs ++ text_from (left - 1) (drop (at + size_at file at) file)) (sym part_is)) f.filling)
-        (omega (arith, part_size, name_inside, f.within)) in
-        record {
-          inside = omega (arith, name_inside);
-          within = omega (arith, f.within);
-          whole = subst (λ (k : ℕ). Whole (entries_end k (left - 1) (drop k file))) place (rest_whole file at left h f.whole);
-          filling = subst (λ (t : List ℕ).
-              Filling (text_from count (drop from file)) (text_from (left - 1) (drop (at + 2 + (get_or file (at + 2) 0 + 1)) file)) before
-              (filled + (get_or file (at + 2) 0 + 1)) t) (sym e)
-              (subst (λ (k : ℕ). Filling (text_from count (drop from file))
-              (text_from (left - 1) (drop (at + 2 + (get_or file (at + 2) 0 + 1)) file)) before (filled + k)
-              (paste text filled name_part (length name_part))) part_size
-              (subst (λ (k : ℕ). Filling (text_from count (drop from file)) (text_from (left - 1) (drop k file)) before
-              (filled + length name_part) (paste text filled name_part (length name_part))) place next));
-        }
+      pub part_size : length name_part ≡ get_or file (at + 2) 0 + 1
+      part_size =
+          ap length part_is
+          ∙ length-take-le (get_or file (at + 2) 0 + 1) (drop (at + 2) file) (omega (arith, length-drop (at + 2) file, name_inside))
+
+      pub name_copied : (after : List ℕ) → length file ≤ length before → after ≡ paste text filled name_part (length name_part) →
+          Names file from count before (at + 2 + (get_or file (at + 2) 0 + 1)) (filled + (get_or file (at + 2) 0 + 1)) (i + 1) after
+      name_copied after room e =
+          let place : at + size_at file at ≡ at + 2 + (get_or file (at + 2) 0 + 1) = omega arith in
+          let fewer : count - i - 1 ≡ count - (i + 1) = omega arith in
+          let next : Filling (text_from count (drop from file)) (text_from (count - i - 1) (drop (at + size_at file at) file)) before
+          (filled + length name_part) (paste text filled name_part (length name_part)) =
+          part_filled name_part (subst (λ (more : List ℕ). Filling (text_from count (drop from file)) more before filled text)
+          (next_name_lem file at (count - i) some_left_names
+          ∙ ap (λ (xs : List ℕ). xs ++ text_from (count - i - 1) (drop (at + size_at file at) file)) (sym part_is)) f.filling)
+          (omega (arith, part_size, name_inside, f.within)) in
+          record {
+            inside = omega (arith, name_inside);
+            within = omega (arith, f.within);
+            few = omega arith;
+            whole = subst (λ (k : ℕ). Whole (entries_end k (count - (i + 1)) (drop k file))) place
+                (subst (λ (n : ℕ). Whole (entries_end (at + size_at file at) n (drop (at + size_at file at) file))) fewer
+                (rest_whole file at (count - i) some_left_names f.whole));
+            filling = subst (λ (t : List ℕ). Filling (text_from count (drop from file))
+                (text_from (count - (i + 1)) (drop (at + 2 + (get_or file (at + 2) 0 + 1)) file)) before
+                (filled + (get_or file (at + 2) 0 + 1)) t) (sym e)
+                (subst (λ (k : ℕ). Filling (text_from count (drop from file))
+                (text_from (count - (i + 1)) (drop (at + 2 + (get_or file (at + 2) 0 + 1)) file)) before (filled + k)
+                (paste text filled name_part (length name_part))) part_size
+                (subst (λ (k : ℕ). Filling (text_from count (drop from file)) (text_from (count - (i + 1)) (drop k file)) before
+                (filled + length name_part) (paste text filled name_part (length name_part))) place
+                (subst (λ (n : ℕ). Filling (text_from count (drop from file)) (text_from n (drop (at + size_at file at) file)) before
+                (filled + length name_part) (paste text filled name_part (length name_part))) fewer next)));
+          }

@@ -1,13 +1,9 @@
 -- What stands in a house file's bytes, read off by places alone, and the answers of the tests as theory has them. Assumes nothing.
 use Rattle.std.specs.Prelude.{ℕ, zero, suc, ◌+◌, ◌*◌, ◌≤◌, true, false, List, [], ◌∷◌, ◌++◌, ltb, eqb, length, get_or, take, drop}
-use Rattle.std.proofs.Math.Option.{Option, none, some}
+use Rattle.std.specs.Prelude.{Option, None, Some}
+use Rattle.std.proofs.Math.Option as maybe
 use Rattle.theory.specs.File.{little_endian, File}
-use Rattle.house_sections.specs.declared.End.{End}
-use Rattle.house_sections.specs.declared.End.TheVariants.{Cut, At}
-use Rattle.house_sections.specs.declared.Goal.{Goal}
-use Rattle.house_sections.specs.declared.Goal.TheVariants.{Missing, Index}
 use Rattle.house_sections.specs.declared.Sections.{Sections}
-use Rattle.house_sections.specs.declared.Sections.TheVariants.{BadFile, Held}
 
 -- n numbers of k bytes each
 unfoldable pub numbers_from : ℕ → ℕ → List ℕ → List ℕ
@@ -28,29 +24,29 @@ text_from zero bs = []
 text_from (suc n) bs = take (get_or bs 2 0 + 1) (drop 2 bs) ++ text_from n (drop (entry_bytes bs) bs)
 
 -- where n assumptions end, in bytes that start at a place of the file
-unfoldable pub entries_end : ℕ → ℕ → List ℕ → End
-entries_end at zero bs = At at
+unfoldable pub entries_end : ℕ → ℕ → List ℕ → Option ℕ
+entries_end at zero bs = Some at
 entries_end at (suc n) bs =
     elim (ltb (length bs) 3) [
-      | true ↦ Cut
+      | true ↦ None
       | false ↦ elim (ltb (length bs) (entry_bytes bs)) [
-        | true ↦ Cut
+        | true ↦ None
         | false ↦ entries_end (at + entry_bytes bs) n (drop (entry_bytes bs) bs)
       ]
     ]
 
-abbrev pub Whole : End → Type 0
-Whole Cut = ⊥
-Whole (At place) = Unit {0}
+abbrev pub Whole : Option ℕ → Type 0
+Whole None = ⊥
+Whole (Some place) = Unit {0}
 
 -- the last section: a count of one, the goal's index, and no more bytes
-unfoldable pub goal_in : List ℕ → Goal
+unfoldable pub goal_in : List ℕ → Option ℕ
 goal_in bs =
     elim (eqb (length bs) 4) [
-      | false ↦ Missing
+      | false ↦ None
       | true ↦ elim (eqb (little_endian (take 2 bs)) 1) [
-        | false ↦ Missing
-        | true ↦ Index (little_endian (take 2 (drop 2 bs)))
+        | false ↦ None
+        | true ↦ Some (little_endian (take 2 (drop 2 bs)))
       ]
     ]
 
@@ -63,9 +59,9 @@ file_in formulas assumptions goal bs = record {
   goals = goal ∷ [];
 }
 
-unfoldable pub held_by : Sections → List ℕ → Option File
-held_by BadFile bs = none
-held_by (Held formulas assumptions goal) bs = some (file_in formulas assumptions goal bs)
+unfoldable pub held_by : Option Sections → List ℕ → maybe.Option File
+held_by None bs = maybe.none
+held_by (Some x) bs = maybe.some (file_in x.formulas x.assumptions x.goal bs)
 
 -- what the tests saw of sections that are held: their counts, and that they are whole
 pub record Seen (formulas assumptions : ℕ) (bs : List ℕ) : Type 0 where
@@ -75,9 +71,9 @@ pub record Seen (formulas assumptions : ℕ) (bs : List ℕ) : Type 0 where
   pub few_assumptions : assumptions ≤ 64
   pub whole : Whole (entries_end (4 + 4 * formulas) assumptions (drop (4 + 4 * formulas) bs))
 
-abbrev pub Fits : Sections → List ℕ → Type 0
-Fits BadFile bs = Unit {0}
-Fits (Held formulas assumptions goal) bs = Seen formulas assumptions bs
+abbrev pub Fits : Option Sections → List ℕ → Type 0
+Fits None bs = Unit {0}
+Fits (Some x) bs = Seen x.formulas x.assumptions bs
 
 -- a list laid over the front of a lent one
 unfoldable pub laid_over : List ℕ → List ℕ → List ℕ

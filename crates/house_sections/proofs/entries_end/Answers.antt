@@ -1,69 +1,51 @@
--- `entries_end` has passed whole assumptions up to `at`. The measure is the number of those still to come. Assumes nothing.
+-- `entries_end` has passed whole assumptions up to `at`. Assumes nothing.
 use native.Mathlib.Omega.{arith}
-use Prim.Native.Nat.{ℕ, ◌+◌}
-use mathlib.Core.Path.{◌≡◌, refl, sym, ap, ◌∙◌}
-use lib.ListN.{drop}
+use Prim.Native.Nat.{ℕ, ◌+◌, ◌-◌, ◌<◌}
+use mathlib.Core.Path.{◌≡◌, sym, ap, ◌∙◌}
+use borrow.Author.Tests.{ltb-true, ltb-false}
+use lib.ListN.{drop, length}
+use Rattle.std.proofs.lemmas.List.{get_or_default}
 use Rattle.house_sections.specs.Held.{entries_end}
-use Rattle.house_sections.proofs.Cursor.{index_missing, name_missing, entry_passed}
+use Rattle.house_sections.proofs.Cursor.{size_at, index_missing, name_missing, entry_passed}
 use Rattle.house_sections.proofs.entries_end.Goals as goal
+use Rattle.house_sections.proofs.entries_end.Goals.{In_ok-size}
 
-pub loop-left-init : goal.loop-left-init
-loop-left-init c =
-    (c.requires, refl)
+-- the length byte is there, and it is the one that was read
+byte_inside : (c : In_ok-size) → c.loop.at + 2 < length c.args.file.now
+byte_inside c = ltb-true (c.loop.at + 2) (length c.args.file.now) (sym c.in_ok-size.ensures.lookup.0)
 
-pub overflow_sub-rest : goal.overflow_sub-rest
-overflow_sub-rest c =
-    omega arith
+size_read : (c : In_ok-size) → c.in_ok-size.field-0.now + 3 ≡ size_at c.args.file.now c.loop.at
+size_read c =
+    let byte = c.in_ok-size.field-0.now in
+    ap (λ (b : ℕ). b + 3)
+    (c.in_ok-size.ensures.lookup.1 ∙ get_or_default c.args.file.now (c.loop.at + 2) byte 0 (byte_inside c))
 
-pub returns-then-rest-lt3 : goal.returns-then-rest-lt3
-returns-then-rest-lt3 c =
-    sym (c.loop-left.invariant.1 ∙ index_missing c.args.file.now c.loop-left.at c.loop-left.left (omega arith) c.if-rest-lt3.true)
+pub returns-in_err-size : goal.returns-in_err-size
+returns-in_err-size c =
+    let short = ltb-false (c.loop.at + 2) (length c.args.file.now) (sym c.in_err-size.ensures.lookup.0) in
+    c.from_residual.ensures ∙ sym (c.loop.invariant.1
+    ∙ index_missing c.args.file.now c.loop.at (c.args.count - c.loop.counter) (omega arith) (omega arith))
 
-pub overflow_add-size : goal.overflow_add-size
-overflow_add-size c =
-    omega arith
+pub returns-then-file-at : goal.returns-then-file-at
+returns-then-file-at c =
+    let inside = byte_inside (goal.at.returns-then-file-at c).In_ok-size in
+    let size = size_read (goal.at.returns-then-file-at c).In_ok-size in
+    sym (c.loop.invariant.1
+    ∙ name_missing c.args.file.now c.loop.at (c.args.count - c.loop.counter) (omega arith) (omega arith) (omega arith))
 
-pub bounds-file-at : goal.bounds-file-at
-bounds-file-at c =
-    omega arith
-
-pub overflow_cast-size : goal.overflow_cast-size
-overflow_cast-size c =
-    omega (arith, c.shared_slice_known-1.given (c.loop-left.at + 2))
-
-pub overflow_add-size-in-loop-left : goal.overflow_add-size-in-loop-left
-overflow_add-size-in-loop-left c =
-    omega (arith, c.shared_slice_known-1.given (c.loop-left.at + 2))
-
-pub returns-then-rest-size : goal.returns-then-rest-size
-returns-then-rest-size c =
-    sym (c.loop-left.invariant.1
-    ∙ name_missing c.args.file.now c.loop-left.at c.loop-left.left (omega arith) c.if-rest-lt3.false
-    c.if-rest-size.true)
-
-pub overflow_add-at : goal.overflow_add-at
-overflow_add-at c =
-    omega arith
-
-pub overflow_sub-left : goal.overflow_sub-left
-overflow_sub-left c =
-    omega arith
-
-pub loop-left-smaller : goal.loop-left-smaller
-loop-left-smaller c =
-    omega arith
-
-pub loop-left-preserved : goal.loop-left-preserved
-loop-left-preserved c = (
-  omega arith,
-  c.loop-left.invariant.1
-      ∙ entry_passed c.args.file.now c.loop-left.at c.loop-left.left (omega arith) c.if-rest-lt3.false
-      c.if-rest-size.false,
-)
+pub loop-preserved : goal.loop-preserved
+loop-preserved c =
+    let inside = byte_inside (goal.at.loop-preserved c).In_ok-size in
+    let size = size_read (goal.at.loop-preserved c).In_ok-size in
+    let fewer : c.args.count - c.loop.counter - 1 ≡ c.args.count - (c.loop.counter + 1) = omega arith in (
+      omega arith,
+      c.loop.invariant.1
+          ∙ entry_passed c.args.file.now c.loop.at (c.args.count - c.loop.counter) (omega arith) (omega arith) (omega arith)
+          ∙ simp (fewer, size),
+    )
 
 pub returns : goal.returns
 unfolding entries_end
 returns c =
-    let none : c.loop-left.left ≡ 0 = omega arith in
-    sym (c.loop-left.invariant.1
-    ∙ ap (λ (n : ℕ). entries_end c.loop-left.at n (drop c.loop-left.at c.args.file.now)) none)
+    let none : c.args.count - c.loop.counter ≡ 0 = omega arith in
+    sym (c.loop.invariant.1 ∙ ap (λ (n : ℕ). entries_end c.loop.at n (drop c.loop.at c.args.file.now)) none)
