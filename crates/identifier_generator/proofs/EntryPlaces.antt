@@ -9,42 +9,42 @@ use borrow.Author.Tests.{lt-ltb, le-ltb}
 use denote.Ref.{Bor}
 use lib.ListN.{length, get_or, take, drop, length-append, length-drop, get_or-eq_default}
 use lib.Seq.{take-append_seam, drop-append_seam, drop-drop}
+use Rattle.std.proofs.Common.{Some, None}
+use Rattle.std.proofs.Common as std
 use Rattle.theory.specs.NameText.{cut_entry, names_in}
 use Rattle.theory.proofs.Entries.{cut_splits, names_next, names_none, lookup_assumed, lookup_generated}
-use Rattle.identifier_generator.specs.declared.Entry.{Entry}
-use Rattle.identifier_generator.specs.declared.Entry.TheVariants.{Held, Missing}
 use Rattle.identifier_generator.specs.Entry.{entry_size, entry_from, start_of, EntryPart, NamePart}
 use Rattle.identifier_generator.proofs.Cursor.{entry_at, size_at}
 
 -- what a step of the loop does to the entry looked for
-abbrev first : ℕ → Option (List ℕ × List ℕ) → Entry
-first at o = elim o [ none ↦ Missing | some p ↦ Held (at + 1) (at + suc (length p.0)) ]
+abbrev first : ℕ → Option (List ℕ × List ℕ) → std.Option (ℕ × ℕ)
+first at o = elim o [ none ↦ None | some p ↦ Some (at + 1, at + suc (length p.0)) ]
 
-abbrev later : ℕ → ℕ → Option (List ℕ × List ℕ) → Entry
-later at k o = elim o [ none ↦ Missing | some p ↦ entry_from (at + suc (length p.0)) k p.1 ]
+abbrev later : ℕ → ℕ → Option (List ℕ × List ℕ) → std.Option (ℕ × ℕ)
+later at k o = elim o [ none ↦ None | some p ↦ entry_from (at + suc (length p.0)) k p.1 ]
 
-pub missing_at : (at k : ℕ) (text : List ℕ) → cut_entry text ≡ none → entry_from at k text ≡ Missing
+pub missing_at : (at k : ℕ) (text : List ℕ) → cut_entry text ≡ none → entry_from at k text ≡ None
 unfolding entry_from
 missing_at at zero text e = ap (first at) e
 missing_at at (suc k) text e = ap (later at k) e
 
-module _ (text : List ℕ) (at s : ℕ) (e : s ≡ entry_size (take (length text - at) (drop at text))) (h : s ≡ 0 → ⊥) where
-  pub held_at : entry_from at 0 (drop at text) ≡ Held (at + 1) (at + s)
+module _ (text : List ℕ) (at s : ℕ) (e : Some s ≡ entry_size (take (length text - at) (drop at text))) where
+  pub held_at : entry_from at 0 (drop at text) ≡ Some (at + 1, at + s)
   unfolding entry_from
-  held_at = ap (first at) (entry_at text at s e h) ∙ ap (λ (n : ℕ). Held (at + 1) (at + n)) (sym (size_at text at s e h))
+  held_at = ap (first at) (entry_at text at s e) ∙ ap (λ (n : ℕ). Some (at + 1, at + n)) (sym (size_at text at s e))
 
-  pub later_at : (k : ℕ) → (k ≡ 0 → ⊥) → entry_from at k (drop at text) ≡ entry_from (at + s) (k - 1) (drop (at + s) text)
+  pub later_at : (k : ℕ) → 0 < k → entry_from at k (drop at text) ≡ entry_from (at + s) (k - 1) (drop (at + s) text)
   unfolding entry_from
-  later_at zero g = absurd (g refl)
+  later_at zero g = absurd (omega arith)
   later_at (suc k) g =
       let before : k ≡ suc k - 1 = omega arith in
-      ap (later at k) (entry_at text at s e h)
-      ∙ ap₂ (λ (n j : ℕ). entry_from (at + n) j (drop (at + s) text)) (sym (size_at text at s e h)) before
+      ap (later at k) (entry_at text at s e)
+      ∙ ap₂ (λ (n j : ℕ). entry_from (at + n) j (drop (at + s) text)) (sym (size_at text at s e)) before
 
 -- the entry's part is x; a missing one is empty
-abbrev pub Right : List ℕ → List ℕ → Entry → Type 0
-Right text x (Held start end) = (start ≤ end) × (end ≤ length text) × (take (end - start) (drop start text) ≡ x)
-Right text x Missing = x ≡ []
+abbrev pub Right : List ℕ → List ℕ → std.Option (ℕ × ℕ) → Type 0
+Right text x (Some p) = (p.0 ≤ p.1) × (p.1 ≤ length text) × (take (p.1 - p.0) (drop p.0 text) ≡ x)
+Right text x None = x ≡ []
 
 -- the first entry of what stands at a place, and where the next one stands
 module _ (text : List ℕ) (at : ℕ) (p : List ℕ × List ℕ) (h : at ≤ length text) (c : cut_entry (drop at text) ≡ some p) where
@@ -54,7 +54,7 @@ module _ (text : List ℕ) (at : ℕ) (p : List ℕ × List ℕ) (h : at ≤ len
   end_within : at + suc (length p.0) ≤ length text
   end_within = omega (arith, length-drop at text, ap length cut, length-append p.0 p.1)
 
-  first_right : Right text p.0 (Held (at + 1) (at + suc (length p.0)))
+  first_right : Right text p.0 (Some (at + 1, at + suc (length p.0)))
   first_right =
       let size : at + suc (length p.0) - (at + 1) ≡ length p.0 = omega arith in (
         omega arith,
@@ -78,7 +78,7 @@ entry_right zero at text h = go (cut_entry (drop at text)) refl
     go : (o : Option (List ℕ × List ℕ)) → cut_entry (drop at text) ≡ o → Right text (get_or (names_in (drop at text)) 0 []) (first at o)
     go none c = no_name (drop at text) 0 c
     go (some p) c =
-        subst (λ (names : List (List ℕ)). Right text (get_or names 0 []) (Held (at + 1) (at + suc (length p.0))))
+        subst (λ (names : List (List ℕ)). Right text (get_or names 0 []) (Some (at + 1, at + suc (length p.0))))
         (sym (names_next (drop at text) p c)) (first_right text at p h c)
 entry_right (suc k) at text h = go (cut_entry (drop at text)) refl (entry_right k)
   where
@@ -93,7 +93,7 @@ entry_right (suc k) at text h = go (cut_entry (drop at text)) refl (entry_right 
         (subst (λ (t : List ℕ). Right text (get_or (names_in t) k []) (entry_from (at + suc (length p.0)) k t)) (next_is text at p h c)
         (ih end text (end_within text at p h c)))
 
-pub found_right : (text : List ℕ) (k : ℕ) {r : Entry} → r ≡ entry_from 0 k text → Right text (get_or (names_in text) k []) r
+pub found_right : (text : List ℕ) (k : ℕ) {r : std.Option (ℕ × ℕ)} → r ≡ entry_from 0 k text → Right text (get_or (names_in text) k []) r
 found_right text k e = subst (Right text (get_or (names_in text) k [])) (sym e) (entry_right k 0 text (omega arith))
 
 -- a name below 64 is an entry of the assumption text, any other one of the generated text

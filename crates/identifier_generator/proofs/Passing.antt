@@ -1,28 +1,57 @@
--- Going through a text one entry after the other: what was looked for is here, in the rest, or nowhere. Assumes nothing.
-use Prim.Native.Nat.{ℕ, ◌-◌}
-use mathlib.Core.Path.{◌≡◌, sym, ap, ◌∙◌}
-use mathlib.Core.Bool.{Bool, true, false, ◌||◌}
-use mathlib.Core.List.{List}
-use lib.ListN.{length, take, drop}
-use Rattle.theory.specs.Names.{same, among}
-use Rattle.theory.specs.NameText.{names_in}
-use Rattle.theory.proofs.Entries.{names_none}
-use Rattle.identifier_generator.specs.Entry.{entry_size}
-use Rattle.identifier_generator.proofs.Sizes.{no_entry, names_cut}
+-- Going through names one after the other: a test that some name passes, and the library's equality. Assumes nothing.
+use Prim.Native.Nat.{ℕ, suc, ◌+◌}
+use mathlib.Core.Path.{◌≡◌, refl, sym, ap, ap₂, ◌∙◌}
+use mathlib.Core.Bool.{Bool, true, false, ◌||◌, ◌&&◌}
+use mathlib.Core.List.{List, [], ◌∷◌}
+use native.Mathlib.Omega.{arith}
+use lib.Dec.{eqb}
+use lib.ListN.{length, get_or}
+use Rattle.std.specs.List.{list_any, list_all, enumerate_from}
+use Rattle.std.specs.Cmp.Lexicographic.{pointwise}
+use Rattle.theory.specs.Names.{same, among, skipped}
+use Rattle.theory.proofs.Entries.{skipped_found, skipped_free}
 
-pub nowhere : (x text : List ℕ) → 0 ≡ entry_size text → among x (names_in text) ≡ false
+-- the library's `==` on bytes
+pub pointwise_same : (a b : List ℕ) → pointwise eqb a b ≡ same a b
+unfolding same
+pointwise_same [] [] = refl
+pointwise_same [] (y ∷ ys) = refl
+pointwise_same (x ∷ xs) [] = refl
+pointwise_same (x ∷ xs) (y ∷ ys) = ap (λ (t : Bool). eqb x y && t) (pointwise_same xs ys)
+
+-- some name is the same as x
+pub any_among : (x : List ℕ) (names : List (List ℕ)) → list_any (same x) names ≡ among x names
 unfolding among
-nowhere x text e = ap (among x) (names_none text (no_entry text e))
+any_among x [] = refl
+any_among x (y ∷ ys) = ap (λ (t : Bool). same x y || t) (any_among x ys)
 
-module _ (x text : List ℕ) (s : ℕ) (e : s ≡ entry_size text) (h : s ≡ 0 → ⊥) where
-  first_or_rest : among x (names_in text) ≡
-      (same x (take (s - 1) (drop 1 text)) || among x (names_in (take (length text - s) (drop s text))))
-  unfolding among
-  first_or_rest = ap (among x) (names_cut text s e h)
+pub any_equal : (x : List ℕ) (names : List (List ℕ)) → list_any (pointwise eqb x) names ≡ among x names
+unfolding among
+any_equal x [] = refl
+any_equal x (y ∷ ys) = ap₂ (λ (s t : Bool). s || t) (pointwise_same x y) (any_equal x ys)
 
-  pub here : true ≡ same x (take (s - 1) (drop 1 text)) → among x (names_in text) ≡ true
-  here t = first_or_rest ∙ ap (λ (b : Bool). b || among x (names_in (take (length text - s) (drop s text)))) (sym t)
+pub any_skipped : (x : List ℕ) (names : List (List ℕ)) → list_any (same x) names ≡ among x (skipped names)
+any_skipped x names = any_among x names ∙ go (among x names) refl
+  where
+    go : (b : Bool) → among x names ≡ b → b ≡ among x (skipped names)
+    go true e = sym (skipped_found x names e)
+    go false e = sym (skipped_free x names e)
 
-  pub in_the_rest : false ≡ same x (take (s - 1) (drop 1 text)) →
-      among x (names_in text) ≡ among x (names_in (take (length text - s) (drop s text)))
-  in_the_rest t = first_or_rest ∙ ap (λ (b : Bool). b || among x (names_in (take (length text - s) (drop s text)))) (sym t)
+-- letter by letter, from place n on
+module _ (whole : List ℕ) where
+  abbrev pub letter_is : ℕ × ℕ → Bool
+  letter_is p = eqb (get_or whole p.0 0) p.1
+
+  all_from : (xs ys : List ℕ) (n : ℕ) → ((k : ℕ) → get_or whole (n + k) 0 ≡ get_or xs k 0) → length xs ≡ length ys →
+      list_all letter_is (enumerate_from n ys) ≡ same xs ys
+  unfolding same
+  all_from [] [] n at e = refl
+  all_from [] (y ∷ ys) n at e = absurd (omega arith)
+  all_from (x ∷ xs) [] n at e = absurd (omega arith)
+  all_from (x ∷ xs) (y ∷ ys) n at e =
+      ap₂ (λ (s t : Bool). s && t)
+      (ap (λ (m : ℕ). eqb m y) (ap (λ (m : ℕ). get_or whole m 0) (omega arith) ∙ at 0))
+      (all_from xs ys (n + 1) (λ k. ap (λ (m : ℕ). get_or whole m 0) (omega arith) ∙ at (suc k)) (omega arith))
+
+  pub all_letters : (ys : List ℕ) → length whole ≡ length ys → list_all letter_is (enumerate_from 0 ys) ≡ same whole ys
+  all_letters ys e = all_from whole ys 0 (λ k. ap (λ (m : ℕ). get_or whole m 0) (omega arith)) e

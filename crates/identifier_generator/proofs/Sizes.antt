@@ -7,84 +7,91 @@ use mathlib.Core.List.{List, [], ◌∷◌, ◌++◌}
 use native.Mathlib.Numerals.{add-one}
 use native.Mathlib.Omega.{arith}
 use borrow.Author.Tests.{le-leb, lt-leb}
-use lib.ListN.{length, get_or, take, drop, length-append, length-drop}
+use lib.ListN.{length, take, drop, length-append, length-drop}
 use lib.Seq.{length-take-le, take-append_seam, drop-append_seam, take_all}
+use Rattle.std.proofs.Common.{Some, None}
 use Rattle.theory.specs.NameText.{cut_entry, names_in}
 use Rattle.theory.proofs.Entries.{cut_splits, names_next}
-use Rattle.identifier_generator.specs.Entry.{entry_size}
+use Rattle.identifier_generator.specs.Entry.{entry_size, size_in}
 
-pub size_empty : (text : List ℕ) → length text ≡ 0 → 0 ≡ entry_size text
+pub size_empty : (text : List ℕ) → length text ≡ 0 → None ≡ entry_size text
 unfolding entry_size cut_entry
 size_empty [] e = refl
 size_empty (b ∷ bs) e = absurd (omega arith)
 
 -- the size as the test of the length byte gives it
-abbrev size_by : ℕ → List ℕ → Bool → ℕ
-size_by n bs t =
-    elim (elim t as (λ c. Option (List ℕ × List ℕ)) [ true ↦ some (take n bs, drop n bs) | false ↦ none ])
-    [ none ↦ 0 | some p ↦ suc (length p.0) ]
+abbrev size_by : ℕ → List ℕ → Bool → Option (List ℕ × List ℕ)
+size_by n bs t = elim t [ true ↦ some (take n bs, drop n bs) | false ↦ none ]
 
 -- a length byte with that many bytes after it
-pub size_fits : (text : List ℕ) → (length text ≡ 0 → ⊥) → get_or text 0 0 + 1 ≤ length text → get_or text 0 0 + 1 ≡ entry_size text
+pub size_fits : (text bs : List ℕ) (n : ℕ) → text ≡ n ∷ bs → n ≤ length bs → Some (n + 1) ≡ entry_size text
 unfolding entry_size cut_entry
-size_fits [] h l = absurd (h refl)
-size_fits (n ∷ bs) h l =
-    let whole : length (take n bs) ≡ n = length-take-le n bs (omega arith) in
-    add-one n ∙ ap suc (sym whole) ∙ sym (ap (size_by n bs) (le-leb n (length bs) (omega arith)))
+size_fits text bs n e l =
+    let whole : length (take n bs) ≡ n = length-take-le n bs l in
+    ap Some (add-one n ∙ ap suc (sym whole))
+    ∙ sym (ap entry_size e ∙ ap (λ (b : Bool). size_in (size_by n bs b)) (le-leb n (length bs) l))
 
-pub size_cut : (text : List ℕ) → (length text ≡ 0 → ⊥) → length text < get_or text 0 0 + 1 → 0 ≡ entry_size text
+pub size_cut : (text bs : List ℕ) (n : ℕ) → text ≡ n ∷ bs → length bs < n → None ≡ entry_size text
 unfolding entry_size cut_entry
-size_cut [] h l = absurd (h refl)
-size_cut (n ∷ bs) h l = sym (ap (size_by n bs) (lt-leb n (length bs) (omega arith)))
+size_cut text bs n e l = sym (ap entry_size e ∙ ap (λ (b : Bool). size_in (size_by n bs b)) (lt-leb n (length bs) l))
 
 -- no size, no entry
-pub no_entry : (text : List ℕ) → 0 ≡ entry_size text → cut_entry text ≡ none
+pub no_entry : (text : List ℕ) → None ≡ entry_size text → cut_entry text ≡ none
 unfolding entry_size
 no_entry text h = go (cut_entry text) h
   where
-    go : (o : Option (List ℕ × List ℕ)) → ◌≡◌ {A = ℕ} 0 (elim o [ none ↦ 0 | some p ↦ suc (length p.0) ]) → o ≡ none
+    go : (o : Option (List ℕ × List ℕ)) → None ≡ size_in o → o ≡ none
     go none h = refl
-    go (some p) h = absurd (omega arith)
-
-pub size_within : (text : List ℕ) → entry_size text ≤ length text
-unfolding entry_size
-size_within text = go (cut_entry text) refl
-  where
-    go : (o : Option (List ℕ × List ℕ)) → cut_entry text ≡ o → elim o [ none ↦ 0 | some p ↦ suc (length p.0) ] ≤ length text
-    go none c = omega arith
-    go (some p) c = omega (arith, ap length (cut_splits text p c), length-append p.0 p.1)
+    go (some p) h = cc
 
 -- an entry of that size is the part after its length byte, and the rest is what comes after it
-pub first_entry : (text : List ℕ) (s : ℕ) → s ≡ entry_size text → (s ≡ 0 → ⊥) →
-    cut_entry text ≡ some (take (s - 1) (drop 1 text), drop s text)
+pub first_entry : (text : List ℕ) (s : ℕ) → Some s ≡ entry_size text → cut_entry text ≡ some (take (s - 1) (drop 1 text), drop s text)
 unfolding entry_size
-first_entry text s e h = go (cut_entry text) refl e
+first_entry text s e = go (cut_entry text) refl e
   where
-    go : (o : Option (List ℕ × List ℕ)) → cut_entry text ≡ o → s ≡ elim o [ none ↦ 0 | some p ↦ suc (length p.0) ] →
-        o ≡ some (take (s - 1) (drop 1 text), drop s text)
-    go none c e = absurd (h e)
+    go : (o : Option (List ℕ × List ℕ)) → cut_entry text ≡ o → Some s ≡ size_in o → o ≡ some (take (s - 1) (drop 1 text), drop s text)
+    go none c e = cc
     go (some p) c e =
+        let s_is : s ≡ suc (length p.0) = cc in
         let cut : text ≡ length p.0 ∷ (p.0 ++ p.1) = cut_splits text p c in
         let size : s - 1 ≡ length p.0 = omega arith in
         let front : take (s - 1) (drop 1 text) ≡ p.0 =
         ap₂ (λ (k : ℕ) (t : List ℕ). take k (drop 1 t)) size cut ∙ take-append_seam p.0 p.1 in
-        let rest : drop s text ≡ p.1 = ap₂ (λ (k : ℕ) (t : List ℕ). drop k t) e cut ∙ drop-append_seam p.0 p.1 in
+        let rest : drop s text ≡ p.1 = ap₂ (λ (k : ℕ) (t : List ℕ). drop k t) s_is cut ∙ drop-append_seam p.0 p.1 in
         ap₂ {C = Option (List ℕ × List ℕ)} (λ u v. some (u, v)) (sym front) (sym rest)
 
-pub size_of : (text : List ℕ) (p : List ℕ × List ℕ) → cut_entry text ≡ some p → entry_size text ≡ suc (length p.0)
+-- its length byte, and its bytes inside the text
+pub size_of : (text : List ℕ) (p : List ℕ × List ℕ) → cut_entry text ≡ some p → entry_size text ≡ Some (suc (length p.0))
 unfolding entry_size
-size_of text p c = ap {B = ℕ} (λ (o : Option (List ℕ × List ℕ)). elim o [ none ↦ 0 | some q ↦ suc (length q.0) ]) c
+size_of text p c = ap size_in c
 
--- so the names are that part and the names of the rest
-pub names_cut : (text : List ℕ) (s : ℕ) → s ≡ entry_size text → (s ≡ 0 → ⊥) →
-    names_in text ≡ take (s - 1) (drop 1 text) ∷ names_in (take (length text - s) (drop s text))
-names_cut text s e h =
-    rw (take_all (length text - s) (drop s text) (omega (arith, length-drop s text)))
-    (names_next text (take (s - 1) (drop 1 text), drop s text) (first_entry text s e h))
+module _ (text : List ℕ) (s : ℕ) (e : Some s ≡ entry_size text) where
+  first_size : s ≡ suc (length (take (s - 1) (drop 1 text)))
+  first_size =
+      let sized = size_of text (take (s - 1) (drop 1 text), drop s text) (first_entry text s e) in
+      cc
 
--- and the rest is shorter
-pub rest_shorter : (text : List ℕ) (s : ℕ) → s ≡ entry_size text → (s ≡ 0 → ⊥) →
-    length (take (length text - s) (drop s text)) < length text
-rest_shorter text s e h =
-    rw (take_all (length text - s) (drop s text) (omega (arith, length-drop s text)))
-    (omega (arith, length-drop s text, size_within text))
+  pub size_positive : 0 < s
+  size_positive = omega (arith, first_size)
+
+  pub size_within : s ≤ length text
+  size_within =
+      let front = take (s - 1) (drop 1 text) in
+      let rest = drop s text in
+      omega (arith, first_size, ap length (cut_splits text (front, rest) (first_entry text s e)), length-append front rest)
+
+  -- so the names are that part and the names of the rest
+  pub names_cut : names_in text ≡ take (s - 1) (drop 1 text) ∷ names_in (take (length text - s) (drop s text))
+  names_cut =
+      rw (take_all (length text - s) (drop s text) (omega (arith, length-drop s text)))
+      (names_next text (take (s - 1) (drop 1 text), drop s text) (first_entry text s e))
+
+  -- and the rest is shorter
+  pub rest_shorter : length (take (length text - s) (drop s text)) < length text
+  rest_shorter =
+      rw (take_all (length text - s) (drop s text) (omega (arith, length-drop s text)))
+      (omega (arith, length-drop s text, size_within, size_positive))
+
+  -- and has a name less
+  pub rest_fewer : length (names_in (take (length text - s) (drop s text))) < length (names_in text)
+  rest_fewer = omega (arith, ap length names_cut)

@@ -1,24 +1,27 @@
 -- The entries of a text as the code finds them: how many bytes the first takes, and where one stands. Assumes nothing.
-use Rattle.std.specs.Prelude.{ℕ, zero, suc, ◌+◌, ◌-◌, ◌≡◌, true, false, List, [], ltb, length, get_or}
+use Rattle.std.specs.Prelude.{ℕ, zero, suc, ◌+◌, ◌-◌, ◌≡◌, true, false, List, [], ltb, length, get_or, Option, Some, None}
+use Rattle.std.proofs.Math.Option as math
 use Rattle.std.proofs.Math.Option.{none, some}
 use Rattle.std.specs.Borrow.{Bor}
 use Rattle.theory.specs.NameText.{cut_entry, names_in, lookup}
-use Rattle.identifier_generator.specs.declared.Entry.{Entry}
-use Rattle.identifier_generator.specs.declared.Entry.TheVariants.{Held, Missing}
 
--- its length byte and its bytes; 0 where it is cut or missing
-unfoldable pub entry_size : List ℕ → ℕ
-entry_size text = elim (cut_entry text) [ none ↦ 0 | some p ↦ suc (length p.0) ]
+-- its length byte and its bytes, unless it is cut or missing
+abbrev pub size_in : math.Option (List ℕ × List ℕ) → Option ℕ
+size_in none = None
+size_in (some p) = Some (suc (length p.0))
 
--- where entry k stands, in a text that starts `at` bytes after the whole one
-unfoldable pub entry_from : ℕ → ℕ → List ℕ → Entry
-entry_from at zero text = elim (cut_entry text) [ none ↦ Missing | some p ↦ Held (at + 1) (at + suc (length p.0)) ]
-entry_from at (suc k) text = elim (cut_entry text) [ none ↦ Missing | some p ↦ entry_from (at + suc (length p.0)) k p.1 ]
+unfoldable pub entry_size : List ℕ → Option ℕ
+entry_size text = size_in (cut_entry text)
+
+-- from where to where entry k stands, in a text that starts `at` bytes after the whole one
+unfoldable pub entry_from : ℕ → ℕ → List ℕ → Option (ℕ × ℕ)
+entry_from at zero text = elim (cut_entry text) [ none ↦ None | some p ↦ Some (at + 1, at + suc (length p.0)) ]
+entry_from at (suc k) text = elim (cut_entry text) [ none ↦ None | some p ↦ entry_from (at + suc (length p.0)) k p.1 ]
 
 -- where its part starts: so many bytes after the text's start, or at the front of the assumption text
-abbrev pub start_of : ℕ × ℕ → ℕ × ℕ → Entry → ℕ × ℕ
-start_of text assumed (Held start end) = (text.0, start + text.1)
-start_of text assumed Missing = assumed
+abbrev pub start_of : ℕ × ℕ → ℕ × ℕ → Option (ℕ × ℕ) → ℕ × ℕ
+start_of text assumed (Some p) = (text.0, p.0 + text.1)
+start_of text assumed None = assumed
 
 -- r is entry k of the text, and a part of it
 pub record EntryPart (text : Bor (List ℕ)) (k : ℕ) (assumed r : Bor (List ℕ)) : Type 0 where

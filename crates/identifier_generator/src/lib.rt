@@ -1,10 +1,11 @@
 #![tactic(auto)]
 // Generated names and the names of assumptions: `identifier_generator.rs` of the Rust, over lent bytes.
-ghost use Rattle.std.specs.Prelude.{◌/◌, ◌%◌, ◌^◌, ◌≤◌, ◌≡◌, length, get_or, replicate};
+ghost use Rattle.std.specs.Prelude.{◌/◌, ◌%◌, ◌^◌, ◌≤◌, ◌≡◌, length, get_or};
+ghost use Rattle.std.specs.Iterator.{YieldsFirstRef, item_count};
 ghost use Rattle.theory.specs.Names.{spell, same, among, skipped, fresh};
 ghost use Rattle.theory.specs.NameText.{names_in, between, name_byte, well_spelled, lawful_after, padded, name_alone};
 ghost use Rattle.identifier_generator.specs.Entry.{entry_size, entry_from, EntryPart, NamePart};
-ghost use Rattle.identifier_generator.specs.Handed.{Hands, HandsPart};
+ghost use Rattle.identifier_generator.specs.Handed.{Hands, HandsResult, number_of, size_in, number_in};
 
 // Generated indices are at most this.
 pub const LAST_INDEX: usize = 4095;
@@ -61,48 +62,45 @@ pub fn letter(i: usize, j: usize) -> u8
 fn spells(i: usize, name: &[u8]) -> bool
     ensures { result ≡ same (spell i) name.now }
 {
-    if letter_count(i) != name.len() {
-        return false;
-    }
-    let mut j = 0;
-    while j < name.len() {
-        if letter(i, j) != name[j] {
-            return false;
-        }
-        j += 1;
-    }
-    true
+    letter_count(i) == name.len() && name.iter().enumerate().all(|(j, b)| letter(i, j) == *b)
 }
 
-// How many bytes the first entry of `text` takes with its length byte; 0 where it is cut or missing.
-pub fn entry_size(text: &[u8]) -> usize
+// How many bytes the first entry of `text` takes with its length byte, unless it is cut or missing.
+pub fn entry_size(text: &[u8]) -> Option<usize>
     ensures { result ≡ entry_size text.now }
 {
-    if text.len() == 0 {
-        return 0;
+    let (first, rest) = text.split_first()?;
+    let size = usize::from(*first);
+    if rest.len() < size {
+        return None;
     }
-    let size = text[0] as usize + 1;
-    if text.len() < size {
-        return 0;
+    Some(size + 1)
+}
+
+// The names of a text, one after the other, up to the first entry that is cut or missing.
+#[derive(Clone, Copy, Drop)]
+pub struct Names<'a>(pub &'a [u8]);
+
+impl<'a> Iterator for Names<'a> {
+    type Item = &'a [u8];
+
+    ghost next_gives = { YieldsFirstRef (λ s. names_in s.0.now) };
+
+    ghost remaining = { item_count (λ s. names_in s.0.now) };
+
+    fn next(&mut self) -> Option<&'a [u8]> {
+        let size = entry_size(self.0)?;
+        let name = &self.0[1..size];
+        self.0 = &self.0[size..];
+        Some(name)
     }
-    size
 }
 
 // Whether index `i` is spelled like a name that generated names skip.
 pub fn spelled_like(text: &[u8], i: usize) -> bool
     ensures { result ≡ among (spell i) (skipped (names_in text.now)) }
 {
-    let mut rest = text;
-    loop {
-        let size = entry_size(rest);
-        if size == 0 {
-            return false;
-        }
-        if spells(i, &rest[1..size]) {
-            return true;
-        }
-        rest = &rest[size..];
-    }
+    Names(text).any(|name| spells(i, name))
 }
 
 // The first index from `i` on that is not spelled like a name that is skipped. For the search, whose indices are far below the bound.
@@ -117,124 +115,37 @@ pub fn fresh(text: &[u8], i: usize) -> usize
     next
 }
 
-fn within(low: u8, high: u8, b: u8) -> bool
-    ensures { result ≡ between low high b }
-{
-    if b < low {
-        return false;
-    }
-    b <= high
-}
-
 // Whether a name may hold the byte.
 fn name_byte(b: u8) -> bool
     ensures { result ≡ name_byte b }
 {
-    if within(b'A', b'Z', b) {
-        return true;
-    }
-    if within(b'a', b'z', b) {
-        return true;
-    }
-    if within(b'0', b'9', b) {
-        return true;
-    }
-    b == b'_'
+    b.is_ascii_alphanumeric() || b == b'_'
 }
 
 // Whether `name` has 1 to 32 bytes, all of them lawful.
 fn well_spelled(name: &[u8]) -> bool
     ensures { result ≡ well_spelled name.now }
 {
-    if name.len() < 1 {
-        return false;
-    }
-    if MOST_BYTES < name.len() {
-        return false;
-    }
-    let mut i = 0;
-    while i < name.len() {
-        if name_byte(name[i]) {
-            i += 1;
-        } else {
-            return false;
-        }
-    }
-    true
-}
-
-// Whether two names are the same.
-fn alike(a: &[u8], b: &[u8]) -> bool
-    ensures { result ≡ same a.now b.now }
-{
-    if a.len() != b.len() {
-        return false;
-    }
-    let mut i = 0;
-    while i < b.len() {
-        if a[i] != b[i] {
-            return false;
-        }
-        i += 1;
-    }
-    true
-}
-
-// Whether `name` stands among the names of `text`.
-fn stands_in(name: &[u8], text: &[u8]) -> bool
-    ensures { result ≡ among name.now (names_in text.now) }
-{
-    let mut rest = text;
-    loop {
-        let size = entry_size(rest);
-        if size == 0 {
-            return false;
-        }
-        if alike(name, &rest[1..size]) {
-            return true;
-        }
-        rest = &rest[size..];
-    }
+    !name.is_empty() && name.len() <= MOST_BYTES && name.iter().all(|b| name_byte(*b))
 }
 
 // Whether an assumption may carry `name` where the names of `earlier` are given already.
 pub fn lawful(name: &[u8], earlier: &[u8]) -> bool
     ensures { result ≡ lawful_after (names_in earlier.now) name.now }
 {
-    if stands_in(name, earlier) {
-        return false;
-    }
-    well_spelled(name)
+    !Names(earlier).any(|other| name == other) && well_spelled(name)
 }
 
-// Where an entry of a text stands: its bytes from `start` to `end`.
-#[derive(Clone, Copy)]
-pub enum Entry {
-    // it is there
-    Held { start: usize, end: usize },
-    // it, or one before it, is cut or missing
-    Missing,
-}
-
-// Where entry `k` of `text` stands, if no entry up to it is cut or missing.
-fn find_entry(text: &[u8], k: usize) -> Entry
+// From where to where the bytes of entry `k` of `text` stand, if no entry up to it is cut or missing.
+fn find_entry(text: &[u8], k: usize) -> Option<(usize, usize)>
     ensures { result ≡ entry_from 0 k text.now }
 {
     let mut at = 0;
-    let mut left = k;
-    loop {
-        let size = entry_size(&text[at..]);
-        if size == 0 {
-            return Entry::Missing;
-        }
-        let start = at + 1;
-        let end = at + size;
-        if left == 0 {
-            return Entry::Held { start, end };
-        }
-        at = end;
-        left -= 1;
+    for _passed in 0..k {
+        at += entry_size(&text[at..])?;
     }
+    let size = entry_size(&text[at..])?;
+    Some((at + 1, at + size))
 }
 
 // Entry `k` of `text` as a part of it; the empty front of `assumed` where it is cut or missing.
@@ -242,8 +153,8 @@ fn entry_part<'a>(text: &'a [u8], k: usize, assumed: &'a [u8]) -> &'a [u8]
     ensures { EntryPart text.entry k assumed.entry result }
 {
     match find_entry(text, k) {
-        Entry::Held { start, end } => &text[start..end],
-        Entry::Missing => &assumed[..0],
+        Some((start, end)) => &text[start..end],
+        None => &assumed[..0],
     }
 }
 
@@ -257,53 +168,58 @@ pub fn name<'a>(assumed: &'a [u8], generated: &'a [u8], x: usize) -> &'a [u8]
     entry_part(generated, x - GENERATED, assumed)
 }
 
-fn clear(buf: &mut [u8])
-    ensures { buf.new ≡ replicate (length buf.old) 0 }
-{
-    let mut j = 0;
-    while j < buf.len() {
-        buf[j] = 0;
-        j += 1;
-    }
-}
-
 // The letters of index `i`, then zeros. For a buffer that has room for them.
 fn spell_into(i: usize, buf: &mut [u8])
     requires { length (spell i) ≤ length buf.old }
     ensures { buf.new ≡ padded (length buf.old) (spell i) }
 {
-    let mut j = 0;
-    while j < buf.len() {
+    for j in 0..buf.len() {
         buf[j] = letter(i, j);
-        j += 1;
     }
 }
 
-// Writes the name of index `i` asked for alone and returns how many bytes it has.
-// Sets `number` to 0, or to the refusal's number; the buffer is zero then.
-pub fn write_alone(i: usize, buf: &mut [u8], number: &mut usize) -> usize
-    ensures { Hands (name_alone i (length buf.old)) result number.new buf.new }
-{
-    if LAST_INDEX < i {
-        clear(buf);
-        *number = NAMES;
-        return 0;
+// Why no name is written.
+#[derive(Clone, Copy, PartialEq, Eq)]
+pub enum NameRefusal {
+    // the index is over the last one
+    Names,
+    // the buffer has no room for the letters
+    NoRoom,
+}
+
+impl NameRefusal {
+    // Its number in document 01's table.
+    pub fn number(self) -> usize
+        ensures { result ≡ number_of self }
+    {
+        match self {
+            NameRefusal::Names => NAMES,
+            NameRefusal::NoRoom => NO_ROOM,
+        }
     }
+}
+
+// Writes the name of index `i` asked for alone and returns how many bytes it has. Where it is refused, the buffer is zero.
+pub fn write_alone(i: usize, buf: &mut [u8]) -> Result<usize, NameRefusal>
+    ensures { Hands (name_alone i (length buf.old)) (size_in result) (number_in number_of result) buf.new }
+{
     let count = letter_count(i);
+    if LAST_INDEX < i {
+        buf.fill(0);
+        return Err(NameRefusal::Names);
+    }
     if buf.len() < count {
-        clear(buf);
-        *number = NO_ROOM;
-        return 0;
+        buf.fill(0);
+        return Err(NameRefusal::NoRoom);
     }
     spell_into(i, buf);
-    *number = 0;
-    count
+    Ok(count)
 }
 
 // The name of index `i` asked for alone, as the front part of the buffer that `write_alone` fills.
-pub fn name_alone<'a>(i: usize, buf: &'a mut [u8], number: &mut usize) -> &'a mut [u8]
-    ensures { HandsPart (name_alone i (length buf.old)) buf.entry result number.new }
+pub fn name_alone<'a>(i: usize, buf: &'a mut [u8]) -> Result<&'a mut [u8], NameRefusal>
+    ensures { HandsResult number_of (name_alone i (length buf.old)) buf.entry result }
 {
-    let n = write_alone(i, buf, number);
-    &mut buf[..n]
+    let n = write_alone(i, buf)?;
+    Ok(&mut buf[..n])
 }

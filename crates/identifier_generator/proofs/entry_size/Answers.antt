@@ -1,24 +1,21 @@
 -- `entry_size` reads the length byte and sees whether its bytes are there. Assumes nothing.
+use mathlib.Core.Path.{◌∙◌}
 use native.Mathlib.Omega.{arith}
 use Rattle.identifier_generator.proofs.Sizes.{size_empty, size_fits, size_cut}
 use Rattle.identifier_generator.proofs.entry_size.Goals as goal
 
-pub returns-then-text-eq0 : goal.returns-then-text-eq0
-returns-then-text-eq0 c =
-    size_empty c.args.text.now c.if-text-eq0.true
+pub returns-in_err-first : goal.returns-in_err-first
+returns-in_err-first c =
+    c.from_residual.ensures ∙ size_empty c.args.text.now (c.in_err-first.ensures).cases
 
-pub overflow_cast-size : goal.overflow_cast-size
-overflow_cast-size c =
-    omega (arith, c.shared_slice_known-1.given 0)
-
-pub overflow_add-size : goal.overflow_add-size
-overflow_add-size c =
-    omega (arith, c.shared_slice_known-1.given 0)
-
-pub returns-then-text-size : goal.returns-then-text-size
-returns-then-text-size c =
-    size_cut c.args.text.now c.if-text-eq0.false c.if-text-size.true
+pub returns-then-rest-size : goal.returns-then-rest-size
+returns-then-rest-size c =
+    let first = c.in_ok-first in
+    let split = first.ensures in
+    size_cut c.args.text.now first.rest.now first.first.now split.cases.0 (omega arith)
 
 pub returns : goal.returns
 returns c =
-    size_fits c.args.text.now c.if-text-eq0.false c.if-text-size.false
+    let first = c.in_ok-first in
+    let split = first.ensures in
+    rw c.from-size.ensures (size_fits c.args.text.now first.rest.now first.first.now split.cases.0 (omega arith))

@@ -1,38 +1,28 @@
--- `well_spelled` has found the bytes before `i` to be lawful. The measure is what is left of the name. Assumes nothing.
-use mathlib.Core.Path.{sym, ◌∙◌}
+-- `well_spelled` looks at the length, then at each byte. Assumes nothing.
+use Prim.Native.Nat.{◌<◌}
+use mathlib.Core.Path.{◌∙◌}
 use native.Mathlib.Omega.{arith}
-use borrow.Author.Tests.{lt-leb}
 use lib.ListN.{length}
-use Rattle.identifier_generator.proofs.Bytes.{wrong_length, right_length, good_byte, bad_byte, no_byte_left, below_range, from_low}
+use Rattle.std.proofs.Common.{rules, tests}
+use Rattle.std.proofs.lemmas.Bool.Decides.{nat_tests}
+use Rattle.std.proofs.lemmas.Iterator.{YieldsList-from_slice}
+use Rattle.std.proofs.lemmas.Iterator.Search.{all_from_yields_List}
+use Rattle.theory.specs.NameText.{name_byte}
+use Rattle.identifier_generator.proofs.Bytes.{too_short, too_long, right_length}
 use Rattle.identifier_generator.proofs.well_spelled.Goals as goal
+use Rattle.identifier_generator.proofs.well_spelled.Goals.{then-not-is_empty, else-not-is_empty}
 
-pub returns-then-name-lt1 : goal.returns-then-name-lt1
-returns-then-name-lt1 c =
+pub returns-then-name-le-MOST_BYTES : goal.returns-then-name-le-MOST_BYTES
+returns-then-name-le-MOST_BYTES c =
     let name = c.args.name.now in
-    wrong_length c.args.name.now (below_range 1 32 (length name) c.if-name-lt1.true)
+    let some : 0 < length c.args.name.now = grind (arith, nat_tests) in
+    all_from_yields_List name_byte _ _ _ c.all.ensures.ran (YieldsList-from_slice name cc) (λ x b q k. search (rules, tests))
+    ∙ right_length name some (omega arith)
 
-pub returns-then-name-gt-MOST_BYTES : goal.returns-then-name-gt-MOST_BYTES
-returns-then-name-gt-MOST_BYTES c =
+pub returns-else-name-le-MOST_BYTES : goal.returns-else-name-le-MOST_BYTES
+returns-else-name-le-MOST_BYTES c =
     let name = c.args.name.now in
-    wrong_length name (sym (lt-leb (length name) 32 c.if-name-gt-MOST_BYTES.true) ∙ from_low 1 32 (length name) c.if-name-lt1.false)
-
-pub loop-i-init : goal.loop-i-init
-loop-i-init c =
-    (omega arith, right_length c.args.name.now c.if-name-lt1.false c.if-name-gt-MOST_BYTES.false)
-
-pub loop-i-preserved : goal.loop-i-preserved
-loop-i-preserved c =
-    let name = c.args.name.now in (
-      omega arith,
-      c.loop-i.invariant.1 ∙ good_byte name c.loop-i.i (omega arith) (sym c.name_byte.ensures ∙ c.if-name_byte.true),
-    )
-
-pub returns-else-name_byte : goal.returns-else-name_byte
-returns-else-name_byte c =
-    let name = c.args.name.now in
-    sym (c.loop-i.invariant.1 ∙ bad_byte name c.loop-i.i (omega arith) (sym c.name_byte.ensures ∙ c.if-name_byte.false))
-
-pub returns : goal.returns
-returns c =
-    let name = c.args.name.now in
-    sym (c.loop-i.invariant.1 ∙ no_byte_left name c.loop-i.i (omega arith))
+    elim c.if-not-is_empty.branch [
+      | then-not-is_empty w ↦ grind (arith, nat_tests, too_short name, too_long name)
+      | else-not-is_empty w ↦ grind (arith, nat_tests, too_short name, too_long name)
+    ]

@@ -10,13 +10,13 @@ pub returns-then-i-gt-LAST_INDEX : goal.returns-then-i-gt-LAST_INDEX
 returns-then-i-gt-LAST_INDEX c =
     let args = c.args in
     let room = length args.buf.now in
-    hands_nothing 7 room (alone_late args.i room (omega arith)) c.clear.ensures
+    hands_nothing 7 room (alone_late args.i room (omega arith)) (c.fill.ensures.after (λ y e. e))
 
 pub returns-then-buf-count : goal.returns-then-buf-count
 returns-then-buf-count c =
     let args = c.args in
     let room = length args.buf.now in
-    hands_nothing 12 room (alone_no_room args.i room (omega arith) (omega arith)) c.clear-then-buf-count.ensures
+    hands_nothing 12 room (alone_no_room args.i room (omega arith) (omega arith)) (c.fill-then-buf-count.ensures.after (λ y e. e))
 
 pub returns : goal.returns
 returns c =
