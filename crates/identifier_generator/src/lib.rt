@@ -36,13 +36,11 @@ fn digit(i: usize, k: usize) -> usize
     ensures { result ≡ i / 26 ^ k % 26 }
 {
     let mut power: usize = 1;
-    let mut n = 0;
-    while n < k {
+    for _passed in 0..k {
         if i / LETTERS < power {
             return 0;
         }
         power *= LETTERS;
-        n += 1;
     }
     i / power % LETTERS
 }
@@ -109,6 +107,7 @@ pub fn fresh(text: &[u8], i: usize) -> usize
     ensures { result ≡ fresh (skipped (names_in text.now)) i }
 {
     let mut next = i;
+    // a `while`: the indices from `i` on have no last one for a `for` to name, and which one is free is what is looked for
     while spelled_like(text, next) {
         next += 1;
     }

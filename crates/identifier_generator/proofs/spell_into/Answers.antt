@@ -1,4 +1,4 @@
--- `spell_into` has written the letters before `j`. The measure is what is left of the buffer. Assumes nothing.
+-- `spell_into` has written the letters before `j`. Assumes nothing.
 use mathlib.Core.Path.{sym, ◌∙◌}
 use native.Mathlib.Omega.{arith}
 use lib.ListN.{length}
@@ -11,10 +11,6 @@ use Rattle.identifier_generator.proofs.spell_into.Goals as goal
 pub loop-j-init : goal.loop-j-init
 loop-j-init c =
     none_filled (padded (length c.args.buf.now) (spell c.args.i)) c.args.buf.now
-
-pub loop-j-smaller : goal.loop-j-smaller
-loop-j-smaller c =
-    omega arith
 
 pub loop-j-preserved : goal.loop-j-preserved
 loop-j-preserved c =

@@ -1,5 +1,4 @@
--- `spell_into` has written the letters before `j`. The measure is what is left of the buffer. Assumes nothing.
-use Prim.Native.Nat.{◌-◌}
+-- `spell_into` has written the letters before `j`. Assumes nothing.
 use lib.ListN.{length}
 use Rattle.theory.specs.Names.{spell}
 use Rattle.theory.specs.NameText.{padded}
@@ -8,6 +7,3 @@ use Rattle.identifier_generator.proofs.spell_into.Given as goal
 
 abbrev pub invariant-loop-j : goal.invariant-loop-j
 invariant-loop-j l = Filled (padded (length l.initial.buf) (spell l.i)) (length l.initial.buf) l.j l.buf
-
-abbrev pub decreases-loop-j : goal.decreases-loop-j
-decreases-loop-j l = length l.initial.buf - l.j
