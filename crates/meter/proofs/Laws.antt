@@ -1,9 +1,10 @@
 -- What a charge lacks, by its tests; and what its answer says of it. Assumes nothing.
-use Rattle.std.specs.Prelude.{Ok, Err}
+use Rattle.std.specs.Prelude.{Result, Ok, Err, IsErr, IsErrAnd}
+use Rattle.std.proofs.lemmas.Result.{err_from_is_err_and}
 use Prim.Native.Nat.{ℕ, ◌≤◌, ◌<◌}
 use borrow.Author.Rules.{rules}
 use native.Mathlib.Omega.{arith}
-use mathlib.Core.Path.{◌≡◌, refl, sym, ◌∙◌}
+use mathlib.Core.Path.{◌≡◌, refl, sym, ap, ◌∙◌}
 use mathlib.Core.Option.{Option, none, some}
 use borrow.Author.Tests.{le-leb, lt-leb}
 use Rattle.theory.specs.Meter.{Lack, Names, Formulas, Terms, Contexts, Levels, lacking, fits}
@@ -74,3 +75,7 @@ pub record Lacks (o : Option Lack) (s : State) (e : Missed) : Type 0 where
 pub refused : {o : Option Lack} {s : State} {e : Missed} → charged o s ≡ Err e → Lacks o s e
 refused {o = none} {s} h = absurd (search (rules, sym (charged_none s) ∙ h))
 refused {o = some l} {s} {e} h = record { lack = l; is = refl; says = grind (arith, charged_some l s) }
+
+-- what a question mark hands on is the same refusal
+pub carried : {A : Type 0} {e : Missed} {r : Result A Missed} → IsErr r × IsErrAnd r (λ x. x ≡ e) → r ≡ Err e
+carried {r = r} h = let found = err_from_is_err_and r h.1 in found.1 ∙ ap Err found.2

@@ -1,7 +1,8 @@
 -- The parts that rules are made of: a charge, then a premise, a try or the last node. Each law takes what the code did and what its calls
 -- mean, and says what the part means. Assumes nothing.
+use Rattle.std.specs.Prelude.{Ok, Err}
 use Prim.Native.Nat.{ℕ, ◌+◌, ◌≤◌, ◌<◌}
-use mathlib.Core.Path.{◌≡◌, refl, ap₂}
+use mathlib.Core.Path.{◌≡◌, refl, sym, ap₂, subst}
 use mathlib.Core.List.{List}
 use native.Mathlib.Omega.{arith}
 use lib.ListN.{length}
@@ -16,17 +17,20 @@ use Rattle.proof_term.proofs.NodeLaws.{Fitting}
 use Rattle.meter.specs.declared.State.{State}
 use Rattle.meter.specs.declared.Sequent.{Sequent}
 use Rattle.meter.specs.declared.Limits.{Limits}
-use Rattle.meter.specs.declared.Answer.{Answer}
-use Rattle.meter.specs.declared.Answer.TheVariants.{Found, Failed, Short}
-use Rattle.meter.specs.Moves.{returned, limits_of}
+use Rattle.meter.specs.declared.Found.{Found}
+use Rattle.meter.specs.declared.Limit.{Limit}
+use Rattle.meter.specs.declared.Missed.{Missed}
+use Rattle.meter.specs.declared.Missed.TheVariants.{Failed, Short}
+use Rattle.meter.specs.Moves.{Answer, returned, limits_of}
+use Rattle.meter.proofs.Laws.{refused}
 use Rattle.search_laws.specs.Reading.{Lent, lent, seq_of, Shows}
-use Rattle.search_laws.specs.Keeping.{Laid, Rep, Within, Frame, Kept}
+use Rattle.search_laws.specs.Keeping.{Laid, missed_at, Rep, Within, Frame, Kept}
 use Rattle.search_laws.specs.Meaning.{Comes, asks, Meets, Goes, Gives}
 use Rattle.search_laws.specs.Closing.{Closes}
 use Rattle.search_laws.specs.Making.{Made, Tested, Back}
 use Rattle.search_laws.proofs.Same.{frame_refl, frame_less, frame_trans, rooms_after, laid_same, seats_same}
 use Rattle.search_laws.proofs.Seat.{seats_more, seats_own}
-use Rattle.search_laws.proofs.Combine.{Lost, comes_as, premise, then_lost, then_found, try_short, try_found, try_failed, kept_on}
+use Rattle.search_laws.proofs.Combine.{comes_as, premise, then_lost, then_found, try_short, try_found, try_failed, kept_on}
 use Rattle.search_laws.proofs.Charge.{charge_ok, charge_short}
 use Rattle.search_laws.proofs.Making.{shows_after, close_comes, close_kept}
 
@@ -60,12 +64,12 @@ gives_close rule rep fits c = record {
 }
 
 -- a charge that passes a limit; c and l are the records and the level of what would come next
-pub gives_short : {m : Limits} {x : Lent} {s : State} {q : Sequent} {n u f t c l : ℕ} (ws : Book) (ns : List Node) (Q : M.Sequent)
-    (k : ℕ → M.State → M.State → M.Answer) → Tested m n u f t c l → (n ≡ 0 → ⊥) → f ≡ s.formulas + length ws → t ≡ s.terms + length ns →
-    c ≡ count Q → l ≡ Q.level → Within m s → Gives (λ d S. charge (limits_of m) u ws ns Q S (k d S)) m x s q (Short n s) x
-gives_short ws ns Q k e z ef et ec el i = record {
-  means = λ S sh. charge_short ws ns Q (λ d. k d S) sh e z ef et ec el;
-  kept = record { frame = frame_refl; within = i; after = tt };
+pub gives_short : {m : Limits} {x : Lent} {s : State} {q : Sequent} {e : Missed} {u f t c l : ℕ} (ws : Book) (ns : List Node)
+    (Q : M.Sequent) (k : ℕ → M.State → M.State → M.Answer) → Tested m (Err e) s u f t c l → f ≡ s.formulas + length ws → t ≡ s.terms + length ns →
+    c ≡ count Q → l ≡ Q.level → Within m s → Gives (λ d S. charge (limits_of m) u ws ns Q S (k d S)) m x s q (Err e) x
+gives_short {m} ws ns Q k tested ef et ec el i = record {
+  means = λ S sh. charge_short ws ns Q (λ d. k d S) sh tested ef et ec el;
+  kept = record { frame = frame_refl; within = subst (λ (v : Missed). Within m (missed_at v)) (sym (refused (sym tested.is)).says) i; after = tt };
 }
 
 -- what comes after it is the conclusion's
@@ -105,7 +109,7 @@ module _ {m : Limits} {x x1 y : Lent} {s s1 : State} {q q1 : Sequent} {u : ℕ} 
       mk.level_up k
 
   module _ (rep : Rep m x s q) (up : q.level < q1.level) where
-    pub back_found : {i : ℕ} {s2 : State} → Kept m x1 s1 q1 (Found i s2) y → Back m x s q s2 y
+    pub back_found : {f : Found} → Kept m x1 s1 q1 (Ok f) y → Back m x s q f.state y
     back_found k =
         back_at rep (frame_less (omega arith) (omega arith) (omega arith) (after_made k)) k.within k.after.laid
         (omega (arith, mk.formulas_up, k.after.formulas_up)) (omega (arith, mk.terms_up, k.after.terms_up))
@@ -117,7 +121,7 @@ module _ {m : Limits} {x x1 y : Lent} {s s1 : State} {q q1 : Sequent} {u : ℕ} 
         back_at rep f rep.within (laid_same f.words rep.laid) (omega arith) (omega arith)
 
     -- a failed try gives its formulas and terms back
-    pub back_failed : {s2 : State} → Kept m x1 s1 q1 (Failed s2) y → Back m x s q (returned s s2) y
+    pub back_failed : {s2 : State} → Kept m x1 s1 q1 (Err (Failed s2)) y → Back m x s q (returned s s2) y
     back_failed k =
         let f : Frame x s.formulas s.terms (q.level + 1) y =
         frame_less (omega arith) (omega arith) (omega arith) (after_made k) in
@@ -150,16 +154,16 @@ module _ {j : M.Judgement} {m : Limits} {taken : List (List ℕ)} {x x1 y : Lent
 
   module _ (k : ℕ → ℕ → M.State → M.Answer) where
     -- a premise that is not found ends the rule
-    pub gives_lost : {r : Answer} → Lost r → Meets j m taken x1 s1 q1 r y →
-        Gives (λ d S. charge (limits_of m) u ws ns Q S (λ S1. and_then (asks m taken d j Q S1) (k d))) m x s q r y
-    gives_lost l p = record {
-      means = λ S sh. paid mk (λ d S1. and_then (asks m taken d j Q S1) (k d)) sh (then_lost k l (asks_made p sh));
+    pub gives_lost : {e : Missed} → Meets j m taken x1 s1 q1 (Err e) y →
+        Gives (λ d S. charge (limits_of m) u ws ns Q S (λ S1. and_then (asks m taken d j Q S1) (k d))) m x s q (Err e) y
+    gives_lost p = record {
+      means = λ S sh. paid mk (λ d S1. and_then (asks m taken d j Q S1) (k d)) sh (then_lost k (asks_made p sh));
       kept = made_kept mk p.kept;
     }
 
     -- a premise that is found, and the rest of the rule
-    pub gives_found : {i : ℕ} {s2 : State} {r : Answer} {z : Lent} → Rep m x s q → q.level < q1.level →
-        Meets j m taken x1 s1 q1 (Found i s2) y → Gives (λ d S. k d i S) m y s2 q r z →
+    pub gives_found : {f : Found} {r : Answer} {z : Lent} → Rep m x s q → q.level < q1.level →
+        Meets j m taken x1 s1 q1 (Ok f) y → Gives (λ d S. k d f.node S) m y f.state q r z →
         Gives (λ d S. charge (limits_of m) u ws ns Q S (λ S1. and_then (asks m taken d j Q S1) (k d))) m x s q r z
     gives_found rep up p g = record {
       means = λ S sh. paid mk (λ d S1. and_then (asks m taken d j Q S1) (k d)) sh (then_found k (asks_made p sh) g.means);
@@ -169,17 +173,18 @@ module _ {j : M.Judgement} {m : Limits} {taken : List (List ℕ)} {x x1 y : Lent
   -- what a try goes on with may look back at the state before it
   module _ (k : M.State → ℕ → ℕ → M.State → M.Answer) (o : M.State → ℕ → Tree → M.State → M.Answer) where
     -- a try that runs short
-    pub gives_try_short : {n : ℕ} {s2 : State} → Meets j m taken x1 s1 q1 (Short n s2) y →
-        Gives (λ d S. charge (limits_of m) u ws ns Q S (λ S1. attempt S (asks m taken d j Q S1) (k S d) (o S d))) m x s q (Short n s2) y
+    pub gives_try_short : {n : Limit} {s2 : State} → Meets j m taken x1 s1 q1 (Err (Short n s2)) y →
+        Gives (λ d S. charge (limits_of m) u ws ns Q S (λ S1. attempt S (asks m taken d j Q S1) (k S d) (o S d))) m x s q
+        (Err (Short n s2)) y
     gives_try_short p = record {
       means = λ S sh. paid mk (λ d S1. attempt S (asks m taken d j Q S1) (k S d) (o S d)) sh (try_short S (k S) (o S) (asks_made p sh));
       kept = made_kept mk p.kept;
     }
 
     -- a try that is found, and the rest
-    pub gives_try_found : {i : ℕ} {s2 : State} {r : Answer} {z : Lent} → Rep m x s q → q.level < q1.level →
-        Meets j m taken x1 s1 q1 (Found i s2) y → Kept m y s2 q r z →
-        ((S : M.State) → Shows x s S → (S2 : M.State) → Shows y s2 S2 → Comes z r (λ d. k S d i S2)) →
+    pub gives_try_found : {f : Found} {r : Answer} {z : Lent} → Rep m x s q → q.level < q1.level →
+        Meets j m taken x1 s1 q1 (Ok f) y → Kept m y f.state q r z →
+        ((S : M.State) → Shows x s S → (S2 : M.State) → Shows y f.state S2 → Comes z r (λ d. k S d f.node S2)) →
         Gives (λ d S. charge (limits_of m) u ws ns Q S (λ S1. attempt S (asks m taken d j Q S1) (k S d) (o S d))) m x s q r z
     gives_try_found rep up p kept g = record {
       means = λ S sh. paid mk (λ d S1. attempt S (asks m taken d j Q S1) (k S d) (o S d)) sh
@@ -189,7 +194,7 @@ module _ {j : M.Judgement} {m : Limits} {taken : List (List ℕ)} {x x1 y : Lent
 
     -- a try that fails, and what comes after it, whatever its tree of worlds
     pub gives_try_failed : {s2 : State} {r : Answer} {z : Lent} → Rep m x s q → q.level < q1.level →
-        Meets j m taken x1 s1 q1 (Failed s2) y → Kept m y (returned s s2) q r z →
+        Meets j m taken x1 s1 q1 (Err (Failed s2)) y → Kept m y (returned s s2) q r z →
         ((S : M.State) → Shows y (returned s s2) (restart S s2.indices s2.steps) → (K : Tree) →
         Comes z r (λ d. o S d K (restart S s2.indices s2.steps))) →
         Gives (λ d S. charge (limits_of m) u ws ns Q S (λ S1. attempt S (asks m taken d j Q S1) (k S d) (o S d))) m x s q r z

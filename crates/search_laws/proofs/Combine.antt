@@ -1,4 +1,5 @@
 -- What an answer means goes through a premise, a try, an entry and the end of a rule. Assumes nothing.
+use Rattle.std.specs.Prelude.{Ok, Err}
 use Prim.Native.Nat.{ℕ, zero, suc, ◌+◌, ◌≤◌, ◌<◌}
 use mathlib.Core.Path.{◌≡◌, refl, ap, ap₂, ◌∙◌, subst}
 use mathlib.Core.List.{List}
@@ -6,7 +7,6 @@ use native.Mathlib.Omega.{arith}
 use native.Mathlib.Nat.{not-suc-le-zero, le_of_suc-le-suc}
 use borrow.Author.Tests.{le-leb, lt-leb}
 use Rattle.theory.specs.World.{Tree}
-use Rattle.theory.specs.Refusal.{lack_number}
 use Rattle.theory.specs.Meter as M
 use Rattle.theory.specs.Meter.{limited, and_then, attempt, enter, fits}
 use Rattle.theory.specs.Search.{rule, run}
@@ -14,19 +14,16 @@ use Rattle.theory.proofs.Charges.{restart}
 use Rattle.meter.specs.declared.State.{State}
 use Rattle.meter.specs.declared.Sequent.{Sequent}
 use Rattle.meter.specs.declared.Limits.{Limits}
-use Rattle.meter.specs.declared.Answer.{Answer}
-use Rattle.meter.specs.declared.Answer.TheVariants.{Found, Failed, Short}
-use Rattle.meter.specs.Moves.{stepped, limits_of}
+use Rattle.meter.specs.declared.Found.{Found}
+use Rattle.meter.specs.declared.Limit.{Limit}
+use Rattle.meter.specs.declared.Limit.TheVariants.{Steps}
+use Rattle.meter.specs.declared.Missed.{Missed}
+use Rattle.meter.specs.declared.Missed.TheVariants.{Failed, Short}
+use Rattle.meter.specs.Moves.{Answer, stepped, limits_of, limit_of}
 use Rattle.search_laws.specs.Reading.{Lent, seq_of, Shows}
-use Rattle.search_laws.specs.Keeping.{Within, Frame, Kept, After, state_of}
+use Rattle.search_laws.specs.Keeping.{Within, Frame, Kept, After}
 use Rattle.search_laws.specs.Meaning.{Says, says_found, says_failed, says_short, Comes, asks, Meets, Goes}
 use Rattle.search_laws.proofs.Same.{frame_refl, frame_trans}
-
--- an answer that is not found
-abbrev pub Lost : Answer → Type 0
-Lost (Found i s) = ⊥
-Lost (Failed s) = Unit {0}
-Lost (Short n s) = Unit {0}
 
 -- the same computation, written in another way
 pub comes_as : {y : Lent} {r : Answer} (C : ℕ → M.Answer) {C1 : ℕ → M.Answer} → ((d : ℕ) → C d ≡ C1 d) → Comes y r C1 → Comes y r C
@@ -37,28 +34,27 @@ pub comes_now : {y : Lent} {r : Answer} {a : M.Answer} (C : ℕ → M.Answer) �
 comes_now C e x = record { answer = _; depth = 0; settles = λ d h. e d; says = x }
 
 -- a premise that is not found ends the rule
-pub then_lost : {y : Lent} {r : Answer} {C : ℕ → M.Answer} (k : ℕ → ℕ → M.State → M.Answer) → Lost r → Comes y r C →
-    Comes y r (λ d. and_then (C d) (k d))
+pub then_lost : {y : Lent} {e : Missed} {C : ℕ → M.Answer} (k : ℕ → ℕ → M.State → M.Answer) → Comes y (Err e) C →
+    Comes y (Err e) (λ d. and_then (C d) (k d))
 unfolding and_then
-then_lost {y} {r} {C} k l x = record {
+then_lost {y} {e} {C} k x = record {
   answer = x.answer;
   depth = x.depth;
-  settles = λ d h. ap (λ (a : M.Answer). and_then a (k d)) (x.settles d h) ∙ stays x.says l (k d);
+  settles = λ d h. ap (λ (a : M.Answer). and_then a (k d)) (x.settles d h) ∙ stays x.says (k d);
   says = x.says;
 }
   where
-    stays : {r : Answer} {a : M.Answer} → Says y r a → Lost r → (k : ℕ → M.State → M.Answer) → and_then a k ≡ a
-    stays (says_found sh) l k = absurd l
-    stays (says_failed K e f) l k = refl
-    stays (says_short n e f) l k = refl
+    stays : {e : Missed} {a : M.Answer} → Says y (Err e) a → (k : ℕ → M.State → M.Answer) → and_then a k ≡ a
+    stays (says_failed K e f) k = refl
+    stays (says_short n e f) k = refl
 
 -- a found premise: the rule goes on from the state that the lists show
-pub then_found : {y z : Lent} {i : ℕ} {s : State} {r : Answer} {C : ℕ → M.Answer} (k : ℕ → ℕ → M.State → M.Answer) →
-    Comes y (Found i s) C → ((S : M.State) → Shows y s S → Comes z r (λ d. k d i S)) → Comes z r (λ d. and_then (C d) (k d))
+pub then_found : {y z : Lent} {t : Found} {r : Answer} {C : ℕ → M.Answer} (k : ℕ → ℕ → M.State → M.Answer) →
+    Comes y (Ok t) C → ((S : M.State) → Shows y t.state S → Comes z r (λ d. k d t.node S)) → Comes z r (λ d. and_then (C d) (k d))
 unfolding and_then
-then_found {y} {z} {i} {s} {r} {C} k x f = go x.says refl
+then_found {y} {z} {t} {r} {C} k x f = go x.says refl
   where
-    go : {a : M.Answer} → Says y (Found i s) a → x.answer ≡ a → Comes z r (λ d. and_then (C d) (k d))
+    go : {a : M.Answer} → Says y (Ok t) a → x.answer ≡ a → Comes z r (λ d. and_then (C d) (k d))
     go (says_found {S = S} sh) e = record {
       answer = (f S sh).answer;
       depth = x.depth + (f S sh).depth;
@@ -67,8 +63,8 @@ then_found {y} {z} {i} {s} {r} {C} k x f = go x.says refl
     }
 
 -- a shortage in a try ends it
-pub try_short : {y : Lent} {n : ℕ} {s : State} {C : ℕ → M.Answer} (S : M.State) (k : ℕ → ℕ → M.State → M.Answer)
-    (o : ℕ → Tree → M.State → M.Answer) → Comes y (Short n s) C → Comes y (Short n s) (λ d. attempt S (C d) (k d) (o d))
+pub try_short : {y : Lent} {n : Limit} {s : State} {C : ℕ → M.Answer} (S : M.State) (k : ℕ → ℕ → M.State → M.Answer)
+    (o : ℕ → Tree → M.State → M.Answer) → Comes y (Err (Short n s)) C → Comes y (Err (Short n s)) (λ d. attempt S (C d) (k d) (o d))
 unfolding attempt
 try_short {y} {n} {s} {C} S k o x = record {
   answer = x.answer;
@@ -77,16 +73,16 @@ try_short {y} {n} {s} {C} S k o x = record {
   says = x.says;
 }
   where
-    stays : {a : M.Answer} → Says y (Short n s) a → (k : ℕ → M.State → M.Answer) (o : Tree → M.State → M.Answer) → attempt S a k o ≡ a
+    stays : {a : M.Answer} → Says y (Err (Short n s)) a → (k : ℕ → M.State → M.Answer) (o : Tree → M.State → M.Answer) → attempt S a k o ≡ a
     stays (says_short l e f) k o = refl
 
-pub try_found : {y z : Lent} {i : ℕ} {s : State} {r : Answer} {C : ℕ → M.Answer} (S : M.State) (k : ℕ → ℕ → M.State → M.Answer)
-    (o : ℕ → Tree → M.State → M.Answer) → Comes y (Found i s) C → ((S1 : M.State) → Shows y s S1 → Comes z r (λ d. k d i S1)) →
+pub try_found : {y z : Lent} {t : Found} {r : Answer} {C : ℕ → M.Answer} (S : M.State) (k : ℕ → ℕ → M.State → M.Answer)
+    (o : ℕ → Tree → M.State → M.Answer) → Comes y (Ok t) C → ((S1 : M.State) → Shows y t.state S1 → Comes z r (λ d. k d t.node S1)) →
     Comes z r (λ d. attempt S (C d) (k d) (o d))
 unfolding attempt
-try_found {y} {z} {i} {s} {r} {C} S k o x f = go x.says refl
+try_found {y} {z} {t} {r} {C} S k o x f = go x.says refl
   where
-    go : {a : M.Answer} → Says y (Found i s) a → x.answer ≡ a → Comes z r (λ d. attempt S (C d) (k d) (o d))
+    go : {a : M.Answer} → Says y (Ok t) a → x.answer ≡ a → Comes z r (λ d. attempt S (C d) (k d) (o d))
     go (says_found {S = S1} sh) e = record {
       answer = (f S1 sh).answer;
       depth = x.depth + (f S1 sh).depth;
@@ -96,12 +92,12 @@ try_found {y} {z} {i} {s} {r} {C} S k o x f = go x.says refl
 
 -- a failed try: the next one starts from the state before it, with the indices and steps after it
 pub try_failed : {y z : Lent} {s : State} {r : Answer} {C : ℕ → M.Answer} (S : M.State) (k : ℕ → ℕ → M.State → M.Answer)
-    (o : ℕ → Tree → M.State → M.Answer) → Comes y (Failed s) C →
+    (o : ℕ → Tree → M.State → M.Answer) → Comes y (Err (Failed s)) C →
     ((K : Tree) → Comes z r (λ d. o d K (restart S s.indices s.steps))) → Comes z r (λ d. attempt S (C d) (k d) (o d))
 unfolding attempt
 try_failed {y} {z} {s} {r} {C} S k o x f = go x.says refl
   where
-    go : {a : M.Answer} → Says y (Failed s) a → x.answer ≡ a → Comes z r (λ d. attempt S (C d) (k d) (o d))
+    go : {a : M.Answer} → Says y (Err (Failed s)) a → x.answer ≡ a → Comes z r (λ d. attempt S (C d) (k d) (o d))
     go (says_failed {u = u} {n = n} K eu en) e = record {
       answer = (f K).answer;
       depth = x.depth + (f K).depth;
@@ -120,21 +116,13 @@ kept_on {m} {x} {x1} {y} {s} {s1} r fr hf ht hl k = record {
 }
   where
     go : (r : Answer) → After y s1 r → After y s r
-    go (Found i s2) a = record {
+    go (Ok f) a = record {
       laid = a.laid;
       formulas_up = omega (arith, a.formulas_up);
       terms_up = omega (arith, a.terms_up);
       root_in = a.root_in;
     }
-    go (Failed s2) a = tt
-    go (Short n s2) a = tt
-
--- an answer that gives nothing back keeps nothing of its own
-pub kept_lost : {m : Limits} {x y : Lent} {s : State} {q : Sequent} (r : Answer) → Lost r →
-    Frame x s.formulas s.terms q.level y → Within m (state_of r) → Kept m x s q r y
-kept_lost (Found i s) l fr w = absurd l
-kept_lost (Failed s) l fr w = record { frame = fr; within = w; after = tt }
-kept_lost (Short n s) l fr w = record { frame = fr; within = w; after = tt }
+    go (Err e) a = tt
 
 -- a premise asked of the sequent that the lists hold
 pub premise : {j : M.Judgement} {m : Limits} {taken : List (List ℕ)} {x y : Lent} {s : State} {q : Sequent} {r : Answer} →
@@ -156,8 +144,8 @@ module _ (m : Limits) (taken : List (List ℕ)) (d : ℕ) (j : M.Judgement) (Q :
 
 module _ {j : M.Judgement} {m : Limits} {taken : List (List ℕ)} {x : Lent} {s : State} {q : Sequent} where
   -- no step is left
-  pub stop : m.steps ≤ s.steps → Within m s → Meets j m taken x s q (Short 6 s) x
-  unfolding lack_number
+  pub stop : m.steps ≤ s.steps → Within m s → Meets j m taken x s q (Err (Short Steps s)) x
+  unfolding limit_of
   stop h i = record {
     means = λ S sh. record {
       answer = M.short M.Steps S.steps;
@@ -211,11 +199,11 @@ pub record FailsAs (S : M.State) (s : State) (C : ℕ → M.Answer) : Type 0 whe
   pub carries : (k : ℕ → ℕ → M.State → M.Answer) (o : ℕ → Tree → M.State → M.Answer) {z : Lent} {r : Answer} →
       Comes z r (λ d. o d tree (restart S s.indices s.steps)) → Comes z r (λ d. attempt S (C d) (k d) (o d))
 
-pub fails_as : {y : Lent} {s : State} {C : ℕ → M.Answer} (S : M.State) → Comes y (Failed s) C → FailsAs S s C
+pub fails_as : {y : Lent} {s : State} {C : ℕ → M.Answer} (S : M.State) → Comes y (Err (Failed s)) C → FailsAs S s C
 unfolding attempt
 fails_as {y} {s} {C} S x = go x.says refl
   where
-    go : {a : M.Answer} → Says y (Failed s) a → x.answer ≡ a → FailsAs S s C
+    go : {a : M.Answer} → Says y (Err (Failed s)) a → x.answer ≡ a → FailsAs S s C
     go (says_failed K eu en) e = record {
       tree = K;
       carries = λ k o c. record {
@@ -228,17 +216,17 @@ fails_as {y} {s} {C} S x = go x.says refl
     }
 
 -- the state of a found try, and what comes after it
-pub record FindsAs (y : Lent) (i : ℕ) (s : State) (C : ℕ → M.Answer) : Type 0 where
+pub record FindsAs (y : Lent) (t : Found) (C : ℕ → M.Answer) : Type 0 where
   pub state : M.State
-  pub shows : Shows y s state
+  pub shows : Shows y t.state state
   pub carries : (S : M.State) (k : ℕ → ℕ → M.State → M.Answer) (o : ℕ → Tree → M.State → M.Answer) {z : Lent} {r : Answer} →
-      Comes z r (λ d. k d i state) → Comes z r (λ d. attempt S (C d) (k d) (o d))
+      Comes z r (λ d. k d t.node state) → Comes z r (λ d. attempt S (C d) (k d) (o d))
 
-pub finds_as : {y : Lent} {i : ℕ} {s : State} {C : ℕ → M.Answer} → Comes y (Found i s) C → FindsAs y i s C
+pub finds_as : {y : Lent} {t : Found} {C : ℕ → M.Answer} → Comes y (Ok t) C → FindsAs y t C
 unfolding attempt
-finds_as {y} {i} {s} {C} x = go x.says refl
+finds_as {y} {t} {C} x = go x.says refl
   where
-    go : {a : M.Answer} → Says y (Found i s) a → x.answer ≡ a → FindsAs y i s C
+    go : {a : M.Answer} → Says y (Ok t) a → x.answer ≡ a → FindsAs y t C
     go (says_found {S = S1} sh) e = record {
       state = S1;
       shows = sh;

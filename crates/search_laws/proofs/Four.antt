@@ -1,4 +1,5 @@
 -- Rule 4 at one position: what the code makes and moves before each of the two premises. Assumes nothing.
+use Rattle.std.specs.Prelude.{Ok}
 use Prim.Native.Nat.{ℕ, zero, suc, ◌+◌, ◌-◌, ◌*◌, ◌<◌, ◌≤◌}
 use mathlib.Core.Path.{◌≡◌, refl, sym, ap, ◌∙◌}
 use mathlib.Core.Option.{none}
@@ -83,21 +84,21 @@ module _ {m : Limits} (taken : List (List ℕ)) {x : Lent} {s : State} {q : Sequ
       ew3 eq3
 
   -- before the second premise: one Application, and C is pushed; t is the node of the first
-  module _ {n : ℕ} (c t : ℕ) (c_in : c < s.formulas) (t_in : t < s.terms)
-      (tested : Tested m n s.indices s.formulas (s.terms + 1) (q.unordered + q.ordered) (q.level + 1)) where
+  module _ (c t : ℕ) (c_in : c < s.formulas) (t_in : t < s.terms) where
     pub second_count : (q.unordered + q.ordered ≡ count (second_next x q i c s.terms)) ×
         (q.level + 1 ≡ (second_next x q i c s.terms).level)
     unfolding second_next count
     second_count = let p = parted_count x q i here in (omega arith, omega arith)
 
-    pub second_made : {t1 : List ℕ} {w1 w2 w3 : List Rec} {s1 : State} {q1 q2 q3 : Sequent} → n ≡ 0 →
+    pub second_made : {t1 : List ℕ} {w1 w2 w3 : List Rec} {s1 : State} {q1 q2 q3 : Sequent} →
+        Tested m (Ok tt) s s.indices s.formulas (s.terms + 1) (q.unordered + q.ordered) (q.level + 1) →
         t1 ≡ put_nodes x.numbers s.terms (app (term_of x q i) t ∷ []) → w1 ≡ raised x.records q → q1 ≡ upped q q.goal →
         w2 ≡ removed w1 q1 i → q2 ≡ without q1 → w3 ≡ set w2 (push_place q2) (rec c s.terms) → q3 ≡ pushed q2 →
         s1 ≡ spent s s.indices 0 1 →
         Made m x s q s.indices [] (by search4 (app (term_of x q i) t ∷ [])) (second_next x q i c s.terms) (lent x.words t1 w3) s1 q3
     unfolding second_next
-    second_made z et ew eq ew2 eq2 ew3 eq3 es =
-        let p = passes tested z in
+    second_made tested et ew eq ew2 eq2 ew3 eq3 es =
+        let p = passes tested in
         let h = fields eq in
         let h2 = fields eq2 in
         let h3 = fields eq3 in
@@ -206,39 +207,39 @@ module _ {m : Limits} (taken : List (List ℕ)) {x : Lent} {s : State} {q : Sequ
             (records_from x q (suc i)) (next d) seen S) (nest_by sh (shape_as x.words (premise_of x q i) k))
             ∙ rw (g, h, sh.many, words_many sh, add-one b)
 
-        module _ {n : ℕ} (t : Tested m n (b + 1) (s.formulas + 1) (s.terms + 5) (q.unordered + q.ordered) (q.level + 1)) where
-          pub first_count : (q.unordered + q.ordered ≡ count first_next) × (q.level + 1 ≡ first_next.level)
-          unfolding count
-          first_count = let p = parted_count x q i here in (omega arith, omega arith)
+        pub first_count : (q.unordered + q.ordered ≡ count first_next) × (q.level + 1 ≡ first_next.level)
+        unfolding count
+        first_count = let p = parted_count x q i here in (omega arith, omega arith)
 
-          pub first_made : {f1 t1 : List ℕ} {w1 w2 w3 : List Rec} {s1 : State} {q1 q2 q3 : Sequent} → n ≡ 0 →
-              f1 ≡ set x.words s.formulas (word (is_imp (middle_of x q i) (end_of x q i))) →
-              t1 ≡ put_nodes x.numbers s.terms first_pieces → w1 ≡ raised x.records q → q1 ≡ upped q (premise_of x q i) →
-              w2 ≡ removed w1 q1 i → q2 ≡ without q1 → w3 ≡ set w2 (push_place q2) (rec s.formulas (4 + s.terms)) → q3 ≡ pushed q2 →
-              s1 ≡ spent s (b + 1) 1 5 →
-              Made m x s q (b + 1) first_words (by search4 first_pieces) first_next (lent f1 t1 w3) s1 q3
-          first_made z ef et ew eq ew2 eq2 ew3 eq3 es =
-              let p = passes t z in
-              let h = fields eq in
-              let h2 = fields eq2 in
-              let h3 = fields eq3 in
-              let few : (s.formulas + 1 ≤ 16384) × (s.terms + 5 ≤ 16384) = omega (arith, p, rep.rooms) in
-              let u : b + 1 ≤ 4096 = p.indices in
-              let up : a < b = omega (arith, fresh_above taken (a + 1)) in
-              let x_in = record_in.term_in in
-              let ins = nested_in in
-              made_of search4 (b + 1) first_pieces first_next rep
-              (words_imp ef (omega arith) (omega arith) (omega (arith, p.formulas, rep.rooms.words_room)) (omega arith)) et (
-                fits16 (ident (name a)) tt (omega arith),
+        pub first_made : {f1 t1 : List ℕ} {w1 w2 w3 : List Rec} {s1 : State} {q1 q2 q3 : Sequent} →
+            Tested m (Ok tt) s (b + 1) (s.formulas + 1) (s.terms + 5) (q.unordered + q.ordered) (q.level + 1) →
+            f1 ≡ set x.words s.formulas (word (is_imp (middle_of x q i) (end_of x q i))) →
+            t1 ≡ put_nodes x.numbers s.terms first_pieces → w1 ≡ raised x.records q → q1 ≡ upped q (premise_of x q i) →
+            w2 ≡ removed w1 q1 i → q2 ≡ without q1 → w3 ≡ set w2 (push_place q2) (rec s.formulas (4 + s.terms)) → q3 ≡ pushed q2 →
+            s1 ≡ spent s (b + 1) 1 5 →
+            Made m x s q (b + 1) first_words (by search4 first_pieces) first_next (lent f1 t1 w3) s1 q3
+        first_made t ef et ew eq ew2 eq2 ew3 eq3 es =
+            let p = passes t in
+            let h = fields eq in
+            let h2 = fields eq2 in
+            let h3 = fields eq3 in
+            let few : (s.formulas + 1 ≤ 16384) × (s.terms + 5 ≤ 16384) = omega (arith, p, rep.rooms) in
+            let u : b + 1 ≤ 4096 = p.indices in
+            let up : a < b = omega (arith, fresh_above taken (a + 1)) in
+            let x_in = record_in.term_in in
+            let ins = nested_in in
+            made_of search4 (b + 1) first_pieces first_next rep
+            (words_imp ef (omega arith) (omega arith) (omega (arith, p.formulas, rep.rooms.words_room)) (omega arith)) et (
+              fits16 (ident (name a)) tt (omega arith),
+              (
+                fits16 (fn _ _) (omega arith) (omega arith),
                 (
-                  fits16 (fn _ _) (omega arith) (omega arith),
-                  (
-                    fits16 (app _ _) (omega arith) tt,
-                    (fits16 (fn _ _) (omega arith) (omega arith), (fits16 (asc _ _) (omega arith) tt, tt)),
-                  ),
+                  fits16 (app _ _) (omega arith) tt,
+                  (fits16 (fn _ _) (omega arith) (omega arith), (fits16 (asc _ _) (omega arith) tt, tt)),
                 ),
-              ) es u p.formulas p.terms
-              (replaced (omega arith) (omega arith) (omega arith) (omega arith) (omega arith) (omega arith) (omega (arith, p.levels)) ew eq
-              ew2 eq2 ew3 eq3)
-              (omega arith) refl (ap (λ (es : List M.Entry). entry s.formulas (4 + s.terms) ∷ es) (sym nothing_left)) (omega arith)
-              (omega arith)
+              ),
+            ) es u p.formulas p.terms
+            (replaced (omega arith) (omega arith) (omega arith) (omega arith) (omega arith) (omega arith) (omega (arith, p.levels)) ew eq
+            ew2 eq2 ew3 eq3)
+            (omega arith) refl (ap (λ (es : List M.Entry). entry s.formulas (4 + s.terms) ∷ es) (sym nothing_left)) (omega arith)
+            (omega arith)

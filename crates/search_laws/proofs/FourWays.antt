@@ -1,8 +1,10 @@
 -- The ways through a try of rule 4: its second premise, and then the whole. Assumes nothing.
+use Rattle.std.specs.Prelude.{Ok, Err}
 use Prim.Native.Nat.{ℕ, suc, ◌+◌, ◌-◌, ◌*◌, ◌<◌, ◌≤◌}
 use mathlib.Core.Path.{◌≡◌, refl, sym, ap, ◌∙◌}
 use mathlib.Core.List.{List, [], ◌∷◌, ◌++◌}
 use native.Mathlib.Omega.{arith}
+use borrow.Author.Rules.{rules}
 use Rattle.theory.specs.Term.{by, app, search4}
 use Rattle.theory.specs.Names.{fresh}
 use Rattle.theory.specs.World.{Tree, Seen, failed_first, failed_second}
@@ -12,9 +14,12 @@ use Rattle.theory.proofs.Charges.{made}
 use Rattle.meter.specs.declared.State.{State}
 use Rattle.meter.specs.declared.Sequent.{Sequent}
 use Rattle.meter.specs.declared.Limits.{Limits}
-use Rattle.meter.specs.declared.Answer.{Answer}
-use Rattle.meter.specs.declared.Answer.TheVariants.{Found, Failed, Short}
-use Rattle.meter.specs.Moves.{returned, limits_of}
+use Rattle.meter.specs.declared.Found.{Found}
+use Rattle.meter.specs.declared.Limit.{Limit}
+use Rattle.meter.specs.declared.Missed.{Missed}
+use Rattle.meter.specs.declared.Missed.TheVariants.{Failed, Short}
+use Rattle.meter.specs.Moves.{Answer, returned, limits_of}
+use Rattle.meter.proofs.Laws.{refused}
 use Rattle.context.specs.Moves.{stretch}
 use Rattle.context.specs.Area.{zeroed}
 use Rattle.search_laws.specs.Reading.{Lent, kind_at, entry_at, unordered_in, Shows}
@@ -46,21 +51,20 @@ module _ {m : Limits} (taken : List (List ℕ)) {x : Lent} {s2 : State} {q : Seq
   unfolding second_try entry_at
   second_by next seen S S2 sh d = rw (sh.used, sh.many)
 
-  pub second_short : {n : ℕ} {s : State} → Tested m n s2.indices s2.formulas (s2.terms + 1) (q.unordered + q.ordered)
-      (q.level + 1) →
-      (n ≡ 0 → ⊥) → Finishes m taken x s s2 q i c t (Short n s2) x
-  second_short e z =
-      let o = second_count taken rep none_left here c t c_in t_in e in
+  pub second_short : {e : Missed} {s : State} → Tested m (Err e) s2 s2.indices s2.formulas (s2.terms + 1) (q.unordered + q.ordered) (q.level + 1) → Finishes m taken x s s2 q i c t (Err e) x
+  second_short {e = Failed s3} tested = absurd (search (rules, (refused (sym tested.is)).says))
+  second_short {e = Short n s3} tested =
+      let o = second_count taken rep none_left here c t c_in t_in in
       record {
         is = λ next seen S. gives_as _ (second_by next seen S)
-            (gives_short [] (by search4 (app (term_of x q i) t ∷ [])) (second_next x q i c s2.terms) _ e z (omega arith) refl o.0 o.1
+            (gives_short [] (by search4 (app (term_of x q i) t ∷ [])) (second_next x q i c s2.terms) _ tested (omega arith) refl o.0 o.1
             rep.within);
       }
 
   module _ {x1 y : Lent} {s1 : State} {q1 : Sequent}
       (mk : Made m x s2 q s2.indices [] (by search4 (app (term_of x q i) t ∷ [])) (second_next x q i c s2.terms) x1 s1 q1) where
-    pub second_stops : {n : ℕ} {s s3 : State} → Meets M.by_left m taken x1 s1 q1 (Short n s3) y →
-        Finishes m taken x s s2 q i c t (Short n s3) y
+    pub second_stops : {n : Limit} {s s3 : State} → Meets M.by_left m taken x1 s1 q1 (Err (Short n s3)) y →
+        Finishes m taken x s s2 q i c t (Err (Short n s3)) y
     second_stops p = record {
       is = λ next seen S. gives_as _ (second_by next seen S) (record {
         means = λ S2 sh. paid mk _ sh (try_short S (λ d u S4. M.found u S4) (on_second next seen) (asks_made mk p sh));
@@ -68,18 +72,17 @@ module _ {m : Limits} (taken : List (List ℕ)) {x : Lent} {s2 : State} {q : Seq
       });
     }
 
-    pub second_found : {j : ℕ} {s s3 : State} → Meets M.by_left m taken x1 s1 q1 (Found j s3) y →
-        Finishes m taken x s s2 q i c t (Found j s3) y
-    second_found {j} p = record {
+    pub second_found : {f : Found} {s : State} → Meets M.by_left m taken x1 s1 q1 (Ok f) y → Finishes m taken x s s2 q i c t (Ok f) y
+    second_found {f} p = record {
       is = λ next seen S. gives_as _ (second_by next seen S) (record {
         means = λ S2 sh. paid mk _ sh (try_found S (λ d u S4. M.found u S4) (on_second next seen) (asks_made mk p sh)
-            (λ S4 sh4. comes_now (λ d. M.found j S4) (λ d. refl) (says_found sh4)));
+            (λ S4 sh4. comes_now (λ d. M.found f.node S4) (λ d. refl) (says_found sh4)));
         kept = made_kept mk p.kept;
       });
     }
 
     pub second_failed : {s s3 : State} → Rep m x s q → s.formulas ≤ s2.formulas → s.terms ≤ s2.terms → q.level < q1.level →
-        Meets M.by_left m taken x1 s1 q1 (Failed s3) y → Finishes m taken x s s2 q i c t (Failed (returned s s3)) y
+        Meets M.by_left m taken x1 s1 q1 (Err (Failed s3)) y → Finishes m taken x s s2 q i c t (Err (Failed (returned s s3))) y
     second_failed {s} {s3} rep0 hf ht up p =
         let f : Frame x s.formulas s.terms (q.level + 1) y = frame_less hf ht (omega arith) (after_made mk p.kept) in
         record {
@@ -142,26 +145,28 @@ module _ {m : Limits} (taken : List (List ℕ)) {x : Lent} {s : State} {q : Sequ
   abbrev after_found : Next → Seen → M.State → ℕ → ℕ → M.State → M.Answer
   after_found next seen S d t S2 = second_try m taken x q i (end_of x q i) next seen S d t S2
 
-  pub try_lacks : {n : ℕ} → Tested m n (b + 1) (s.formulas + 1) (s.terms + 5) (q.unordered + q.ordered) (q.level + 1) → (n ≡ 0 → ⊥) →
-      TriesAt m taken x s q i (Short n s) x
-  try_lacks t z =
-      let o = first_count taken rep none_left here e k ea eb t in
+  pub try_lacks : {e : Missed} → Tested m (Err e) s (b + 1) (s.formulas + 1) (s.terms + 5) (q.unordered + q.ordered) (q.level + 1) → TriesAt m taken x s q i (Err e) x
+  try_lacks {e = Failed s1} t = absurd (search (rules, (refused (sym t.is)).says))
+  try_lacks {e = Short n s1} t =
+      let o = first_count taken rep none_left here e k ea eb in
       record {
         is = λ next seen. gives_as _ (trying_by taken rep none_left here e k ea eb next seen)
             (gives_short (first_words taken rep none_left here e k ea eb) (by search4 (first_pieces taken rep none_left here e k ea eb))
-            (first_next taken rep none_left here e k ea eb) _ t z refl refl o.0 o.1 rep.within);
+            (first_next taken rep none_left here e k ea eb) _ t refl refl o.0 o.1 rep.within);
       }
 
   module _ {x1 y : Lent} {s1 : State} {q1 : Sequent} (mk : Made m x s q (b + 1) (first_words taken rep none_left here e k ea eb)
       (by search4 (first_pieces taken rep none_left here e k ea eb)) (first_next taken rep none_left here e k ea eb) x1 s1 q1)
       (up : q.level < q1.level) where
-    pub try_stops : {n : ℕ} {s2 : State} → Meets M.by_right m taken x1 s1 q1 (Short n s2) y → TriesAt m taken x s q i (Short n s2) y
+    pub try_stops : {n : Limit} {s2 : State} → Meets M.by_right m taken x1 s1 q1 (Err (Short n s2)) y →
+        TriesAt m taken x s q i (Err (Short n s2)) y
     try_stops p = record {
       is = λ next seen. gives_as _ (trying_by taken rep none_left here e k ea eb next seen)
           (gives_try_short mk (after_found next seen) (on_first next seen) p);
     }
 
-    pub try_fails : {s2 : State} → Meets M.by_right m taken x1 s1 q1 (Failed s2) y → TriesAt m taken x s q i (Failed (returned s s2)) y
+    pub try_fails : {s2 : State} → Meets M.by_right m taken x1 s1 q1 (Err (Failed s2)) y →
+        TriesAt m taken x s q i (Err (Failed (returned s s2))) y
     try_fails {s2} p = record {
       is = (
         record { back = back_failed mk rep up p.kept; formulas = refl; terms = refl },
@@ -175,7 +180,7 @@ module _ {m : Limits} (taken : List (List ℕ)) {x : Lent} {s : State} {q : Sequ
     }
 
     -- the second premise is tried at lists that were left alone where it reads them
-    over : {t c : ℕ} {s2 : State} → Meets M.by_right m taken x1 s1 q1 (Found t s2) y → c ≡ end_of x q i → (next : Next) (seen : Seen)
+    over : {f : Found} {c : ℕ} → Meets M.by_right m taken x1 s1 q1 (Ok f) y → c ≡ end_of x q i → (next : Next) (seen : Seen)
         (S : M.State)
         (j : ℕ) (S2 : M.State) (d : ℕ) → after_found next seen S d j S2 ≡ second_try m taken y q i c next seen S d j S2
     over p ec next seen S j S2 d =
@@ -184,28 +189,28 @@ module _ {m : Limits} (taken : List (List ℕ)) {x : Lent} {s : State} {q : Sequ
         ∙ ap (λ (v : ℕ). second_try m taken y q i v next seen S d j S2) (sym ec)
 
     -- the first premise is found, and its second comes to r
-    pub try_then : {t c : ℕ} {s2 : State} (r : Answer) {z : Lent} → Meets M.by_right m taken x1 s1 q1 (Found t s2) y → c ≡ end_of x q i →
-        Finishes m taken y s s2 q i c t r z → TriesAt m taken x s q i r z
-    try_then {t} {c} {s2} (Found j s3) {z} p ec g = record {
+    pub try_then : {f : Found} {c : ℕ} (r : Answer) {z : Lent} → Meets M.by_right m taken x1 s1 q1 (Ok f) y → c ≡ end_of x q i →
+        Finishes m taken y s f.state q i c f.node r z → TriesAt m taken x s q i r z
+    try_then {f} {c} (Ok h) {z} p ec g = record {
       is = λ next seen. gives_as _ (trying_by taken rep none_left here e k ea eb next seen)
           (gives_try_found mk (after_found next seen) (on_first next seen) rep up p
           (g.is next seen (record { words = []; nodes = []; used = 0; steps = 0 })).kept
-          (λ S sh S2 sh2. comes_as (λ d. after_found next seen S d t S2) (over p ec next seen S t S2) ((g.is next seen S).means S2 sh2)));
+          (λ S sh S2 sh2. comes_as (λ d. after_found next seen S d f.node S2) (over p ec next seen S f.node S2) ((g.is next seen S).means S2 sh2)));
     }
-    try_then {t} {c} {s2} (Short n s3) {z} p ec g = record {
+    try_then {f} {c} (Err (Short n s3)) {z} p ec g = record {
       is = λ next seen. gives_as _ (trying_by taken rep none_left here e k ea eb next seen)
           (gives_try_found mk (after_found next seen) (on_first next seen) rep up p
           (g.is next seen (record { words = []; nodes = []; used = 0; steps = 0 })).kept
-          (λ S sh S2 sh2. comes_as (λ d. after_found next seen S d t S2) (over p ec next seen S t S2) ((g.is next seen S).means S2 sh2)));
+          (λ S sh S2 sh2. comes_as (λ d. after_found next seen S d f.node S2) (over p ec next seen S f.node S2) ((g.is next seen S).means S2 sh2)));
     }
-    try_then {t} {c} {s2} (Failed s3) {z} p ec g = record {
+    try_then {f} {c} (Err (Failed s3)) {z} p ec g = record {
       is = (
         twice (back_found mk rep up p.kept) g.is.0,
         λ next seen S sh. hands next seen S sh (finds_as (asks_made mk p sh)),
       );
     }
       where
-        twice : Back m x s q s2 y → Past m y s q s3 z → Past m x s q s3 z
+        twice : Back m x s q f.state y → Past m y s q s3 z → Past m x s q s3 z
         twice one two = record {
           back = record {
             rep = two.back.rep;
@@ -218,15 +223,15 @@ module _ {m : Limits} (taken : List (List ℕ)) {x : Lent} {s : State} {q : Sequ
           terms = two.terms;
         }
 
-        hands : (next : Next) (seen : Seen) (S : M.State) → Shows x s S → FindsAs y t s2 (λ d. asks m taken d M.by_right
+        hands : (next : Next) (seen : Seen) (S : M.State) → Shows x s S → FindsAs y f (λ d. asks m taken d M.by_right
             (first_next taken rep none_left here e k ea eb) (made S (b + 1) (first_words taken rep none_left here e k ea eb)
             (by search4 (first_pieces taken rep none_left here e k ea eb)))) → HandsOn next S s3 (λ d. trying m taken x q i next seen d S)
-        hands next seen S sh f =
-            let h = g.is.1 next seen S f.state f.shows in
+        hands next seen S sh v =
+            let h = g.is.1 next seen S v.state v.shows in
             record {
               seen = h.seen;
-              carries = λ r v c. comes_as (λ d. trying m taken x q i next seen d S)
+              carries = λ r w c. comes_as (λ d. trying m taken x q i next seen d S)
                   (trying_by taken rep none_left here e k ea eb next seen S sh)
-                  (paid mk _ sh (f.carries S (after_found next seen S) (on_first next seen S)
-                  (comes_as (λ d. after_found next seen S d t f.state) (over p ec next seen S t f.state) (h.carries r v c))));
+                  (paid mk _ sh (v.carries S (after_found next seen S) (on_first next seen S)
+                  (comes_as (λ d. after_found next seen S d f.node v.state) (over p ec next seen S f.node v.state) (h.carries r w c))));
             }

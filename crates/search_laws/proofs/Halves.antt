@@ -1,4 +1,5 @@
 -- The tries of search: the two halves of an Or goal, and then the positions. Assumes nothing.
+use Rattle.std.specs.Prelude.{Ok, Err}
 use Prim.Native.Nat.{ℕ, zero, suc, ◌+◌, ◌<◌}
 use mathlib.Core.Path.{◌≡◌, refl, sym, ap, ap₂, ◌∙◌}
 use mathlib.Core.List.{List, []}
@@ -13,9 +14,11 @@ use Rattle.theory.proofs.Charges.{restart}
 use Rattle.meter.specs.declared.State.{State}
 use Rattle.meter.specs.declared.Sequent.{Sequent}
 use Rattle.meter.specs.declared.Limits.{Limits}
-use Rattle.meter.specs.declared.Answer.{Answer}
-use Rattle.meter.specs.declared.Answer.TheVariants.{Found, Failed, Short}
-use Rattle.meter.specs.Moves.{returned, limits_of}
+use Rattle.meter.specs.declared.Found.{Found}
+use Rattle.meter.specs.declared.Limit.{Limit}
+use Rattle.meter.specs.declared.Missed.{Missed}
+use Rattle.meter.specs.declared.Missed.TheVariants.{Failed, Short}
+use Rattle.meter.specs.Moves.{Answer, returned, limits_of}
 use Rattle.search_laws.specs.Reading.{Lent, lent, kind_at, left_at, right_at, shape_at, seq_of, Shows}
 use Rattle.search_laws.specs.Keeping.{Rep}
 use Rattle.search_laws.specs.Meaning.{asks, Meets, Gives}
@@ -97,30 +100,30 @@ module _ {m : Limits} (taken : List (List ℕ)) {x : Lent} {s : State} {q : Sequ
     unfolding halves inl_end inr_end ranging
     or_by S sh d = tries_by or_shape S sh d ∙ rw sh.used
 
-    pub tries_short : {n : ℕ} → Tested m n s.indices s.formulas s.terms (q.unordered + q.ordered) (q.level + 1) → (n ≡ 0 → ⊥) →
-        Gives (tries m taken (seq_of x.records q)) m x s q (Short n s) x
-    tries_short t z = gives_as _ or_by (up_short rep (left_at x.words q.goal) _ t z)
+    pub tries_short : {e : Missed} → Tested m (Err e) s s.indices s.formulas s.terms (q.unordered + q.ordered) (q.level + 1) →
+        Gives (tries m taken (seq_of x.records q)) m x s q (Err e) x
+    tries_short t = gives_as _ or_by (up_short rep (left_at x.words q.goal) _ t)
 
     module _ {x1 y : Lent} {q1 : Sequent}
         (mk : Made m x s q s.indices [] [] (goal_up (seq_of x.records q) (left_at x.words q.goal)) x1 s q1) where
-      pub tries_first_short : {n : ℕ} {s2 : State} → Meets M.by_right m taken x1 s q1 (Short n s2) y →
-          Gives (tries m taken (seq_of x.records q)) m x s q (Short n s2) y
+      pub tries_first_short : {n : Limit} {s2 : State} → Meets M.by_right m taken x1 s q1 (Err (Short n s2)) y →
+          Gives (tries m taken (seq_of x.records q)) m x s q (Err (Short n s2)) y
       tries_first_short p = gives_as _ or_by (gives_try_short mk (λ S d. inl_end m d) after_first p)
 
-      pub tries_first_found : {i : ℕ} {s2 : State} {r : Answer} {t1 : List ℕ} → q.level < q1.level →
-          Meets M.by_right m taken x1 s q1 (Found i s2) y → Closes m y.numbers s2 (inl i) r t1 →
+      pub tries_first_found : {f : Found} {r : Answer} {t1 : List ℕ} → q.level < q1.level →
+          Meets M.by_right m taken x1 s q1 (Ok f) y → Closes m y.numbers f.state (inl f.node) r t1 →
           Gives (tries m taken (seq_of x.records q)) m x s q r (lent y.words t1 y.records)
       unfolding inl_end
-      tries_first_found {i} up p c =
+      tries_first_found {f} up p c =
           let back = back_found mk rep up p.kept in
           let i_in = p.kept.after.root_in in
           let few = p.kept.within.in_terms in
           let most_in = rep.rooms.most_terms in
-          let end = gives_close search3 back.rep (fits16 (inl i) (omega arith) tt) c in
+          let end = gives_close search3 back.rep (fits16 (inl f.node) (omega arith) tt) c in
           gives_as _ or_by (gives_try_found mk (λ S d. inl_end m d) after_first rep up p end.kept (λ S sh. end.means))
 
       -- the first half failed, and what is left gives r
-      pub tries_first_failed : {s2 : State} {r : Answer} {z : Lent} → q.level < q1.level → Meets M.by_right m taken x1 s q1 (Failed s2) y →
+      pub tries_first_failed : {s2 : State} {r : Answer} {z : Lent} → q.level < q1.level → Meets M.by_right m taken x1 s q1 (Err (Failed s2)) y →
           Seconds m taken (right_at y.words q.goal) y (returned s s2) q r z → Gives (tries m taken (seq_of x.records q)) m x s q r z
       tries_first_failed {s2} {r} {z} up p g =
           let back = back_failed mk rep up p.kept in
@@ -142,31 +145,32 @@ module _ {m : Limits} (taken : List (List ℕ)) {x : Lent} {s : State} {q : Sequ
   unfolding half_second
   second_by K S sh d = rw sh.used
 
-  pub second_half_short : {n : ℕ} → Tested m n s.indices s.formulas s.terms (q.unordered + q.ordered) (q.level + 1) →
-      (n ≡ 0 → ⊥) → Seconds m taken b x s q (Short n s) x
-  second_half_short t z = record { gives = λ K. gives_as _ (second_by K) (up_short rep b _ t z) }
+  pub second_half_short : {e : Missed} → Tested m (Err e) s s.indices s.formulas s.terms (q.unordered + q.ordered) (q.level + 1) →
+      Seconds m taken b x s q (Err e) x
+  second_half_short t = record { gives = λ K. gives_as _ (second_by K) (up_short rep b _ t) }
 
   module _ {x1 y : Lent} {q1 : Sequent} (mk : Made m x s q s.indices [] [] (goal_up (seq_of x.records q) b) x1 s q1) where
-    pub second_half_stops : {n : ℕ} {s2 : State} → Meets M.by_right m taken x1 s q1 (Short n s2) y → Seconds m taken b x s q (Short n s2) y
+    pub second_half_stops : {n : Limit} {s2 : State} → Meets M.by_right m taken x1 s q1 (Err (Short n s2)) y →
+        Seconds m taken b x s q (Err (Short n s2)) y
     second_half_stops p = record { gives = λ K. gives_as _ (second_by K) (gives_try_short mk (λ S d. inr_end m d) (after_second K) p) }
 
-    pub second_half_found : {i : ℕ} {s2 : State} {r : Answer} {t1 : List ℕ} → q.level < q1.level →
-        Meets M.by_right m taken x1 s q1 (Found i s2) y → Closes m y.numbers s2 (inr i) r t1 →
+    pub second_half_found : {f : Found} {r : Answer} {t1 : List ℕ} → q.level < q1.level →
+        Meets M.by_right m taken x1 s q1 (Ok f) y → Closes m y.numbers f.state (inr f.node) r t1 →
         Seconds m taken b x s q r (lent y.words t1 y.records)
     unfolding inr_end
-    second_half_found {i} up p c =
+    second_half_found {f} up p c =
         let back = back_found mk rep up p.kept in
         let i_in = p.kept.after.root_in in
         let few = p.kept.within.in_terms in
         let most_in = rep.rooms.most_terms in
-        let end = gives_close search3 back.rep (fits16 (inr i) (omega arith) tt) c in
+        let end = gives_close search3 back.rep (fits16 (inr f.node) (omega arith) tt) c in
         record {
           gives = λ K. gives_as _ (second_by K)
               (gives_try_found mk (λ S d. inr_end m d) (after_second K) rep up p end.kept (λ S sh. end.means));
         }
 
     -- it failed too, and the positions give r
-    pub second_half_failed : {s2 : State} {r : Answer} {z : Lent} → q.level < q1.level → Meets M.by_right m taken x1 s q1 (Failed s2) y →
+    pub second_half_failed : {s2 : State} {r : Answer} {z : Lent} → q.level < q1.level → Meets M.by_right m taken x1 s q1 (Err (Failed s2)) y →
         Ranges m taken y (returned s s2) q r z → Seconds m taken b x s q r z
     second_half_failed {s2} {r} {z} up p g =
         let back = back_failed mk rep up p.kept in

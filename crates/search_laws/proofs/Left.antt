@@ -1,4 +1,5 @@
 -- The ways through left that make one turn: what is dropped, what ends, what goes to the unordered context, and And. Assumes nothing.
+use Rattle.std.specs.Prelude.{Ok, Err}
 use Prim.Native.Nat.{ℕ, zero, suc, ◌+◌, ◌-◌, ◌*◌, ◌<◌, ◌≤◌}
 use mathlib.Core.Path.{◌≡◌, refl, ap, ◌∙◌, subst}
 use mathlib.Core.List.{List, [], ◌∷◌, ◌++◌}
@@ -13,9 +14,8 @@ use Rattle.theory.specs.Search.{entry, go_on, on_left, pop_left, rule}
 use Rattle.meter.specs.declared.State.{State}
 use Rattle.meter.specs.declared.Sequent.{Sequent}
 use Rattle.meter.specs.declared.Limits.{Limits}
-use Rattle.meter.specs.declared.Answer.{Answer}
-use Rattle.meter.specs.declared.Answer.TheVariants.{Short}
-use Rattle.meter.specs.Moves.{spent, limits_of}
+use Rattle.meter.specs.declared.Missed.{Missed}
+use Rattle.meter.specs.Moves.{Answer, spent, limits_of}
 use Rattle.context.specs.Moves.{stretch, pushed, popped, appended}
 use Rattle.context.specs.Area.{Rec, rec, push_place, append_place, top_place}
 use Rattle.search_laws.specs.Tables.{downto}
@@ -144,41 +144,40 @@ module _ {m : Limits} (taken : List (List ℕ)) {x : Lent} {s : State} {q : Sequ
     unfolding on_left entry_at
     and_by S sh d = left_by_lem and_shape S sh d ∙ rw (sh.many, sh.used, add-one)
 
-    module _ {n : ℕ} {q1 : Sequent} (eq : q1 ≡ popped q)
-        (t : Tested m n s.indices s.formulas (s.terms + 2) (q1.unordered + q1.ordered + 2) q1.level) where
-      pub left_and_short : (n ≡ 0 → ⊥) → Goes M.by_left m taken x s q (Short n s) x
-      unfolding go_on count
-      left_and_short z =
-          let h = fields eq in
-          let a = unordered_length x.records q.level q.unordered in
-          let b = ordered_length x.records q.level (q.ordered - 1) in
-          goes_by and_by (gives_short [] (by left_and (fst (top_term x q) ∷ snd (top_term x q) ∷ [])) and_next _ t z (omega arith) refl
-          (omega arith) (omega arith) rep.within)
+    pub left_and_short : {e : Missed} → Tested m (Err e) s s.indices s.formulas (s.terms + 2) (q.unordered + q.ordered + 1) q.level →
+        Goes M.by_left m taken x s q (Err e) x
+    unfolding go_on count
+    left_and_short t =
+        let a = unordered_length x.records q.level q.unordered in
+        let b = ordered_length x.records q.level (q.ordered - 1) in
+        goes_by and_by (gives_short [] (by left_and (fst (top_term x q) ∷ snd (top_term x q) ∷ [])) and_next _ t (omega arith) refl
+        (omega arith) (omega arith) rep.within)
 
-      pub left_and_made : {t1 : List ℕ} {w1 w2 : List Rec} {s1 : State} {q2 q3 : Sequent} → n ≡ 0 →
-          t1 ≡ put_nodes x.numbers s.terms (fst (top_term x q) ∷ snd (top_term x q) ∷ []) →
-          w1 ≡ set x.records (push_place q1) (rec (left_at x.words (top_formula x q)) s.terms) → q2 ≡ pushed q1 →
-          w2 ≡ set w1 (push_place q2) (rec (right_at x.words (top_formula x q)) (s.terms + 1)) → q3 ≡ pushed q2 →
-          s1 ≡ spent s s.indices 0 2 →
-          Made m x s q s.indices [] (by left_and (fst (top_term x q) ∷ snd (top_term x q) ∷ [])) and_next (lent x.words t1 w2) s1 q3
-      unfolding go_on
-      left_and_made {t1} {w1} {w2} {s1} {q2} {q3} z et ew eq2 ew2 eq3 es =
-          let p = passes t z in
-          let h = fields eq in
-          let h2 = fields eq2 in
-          let h3 = fields eq3 in
-          let few : (s.formulas + 0 ≤ 65536) × (s.terms + 2 ≤ 65536) = omega (arith, p, rep.rooms) in
-          let narrow : top_term x q < 65536 = omega (arith, top_inside.term_in) in
-          let i : ℕ = top_formula x q in
-          made_of left_and s.indices (fst (top_term x q) ∷ snd (top_term x q) ∷ []) and_next rep words_none et
-          (fits16 (fst (top_term x q)) narrow tt, (fits16 (snd (top_term x q)) narrow tt, tt)) es p.indices (omega (arith, p.formulas))
-          p.terms
-          (area_push (area_push (area_top q3.level (omega arith) (omega arith) eq) (left_at x.words i) s.terms
-          (omega (arith, and_parts))
-          (omega arith) few (omega (arith, p.contexts)) (omega arith) ew eq2) (right_at x.words i) (s.terms + 1)
-          (omega (arith, and_parts))
-          (omega arith) few (omega (arith, p.contexts)) (omega arith) ew2 eq3)
-          (omega arith) refl refl (omega arith) (omega arith)
+    pub left_and_made : {t1 : List ℕ} {w1 w2 : List Rec} {s1 : State} {q1 q2 q3 : Sequent} →
+        Tested m (Ok tt) s s.indices s.formulas (s.terms + 2) (q.unordered + q.ordered + 1) q.level → q1 ≡ popped q →
+        t1 ≡ put_nodes x.numbers s.terms (fst (top_term x q) ∷ snd (top_term x q) ∷ []) →
+        w1 ≡ set x.records (push_place q1) (rec (left_at x.words (top_formula x q)) s.terms) → q2 ≡ pushed q1 →
+        w2 ≡ set w1 (push_place q2) (rec (right_at x.words (top_formula x q)) (s.terms + 1)) → q3 ≡ pushed q2 →
+        s1 ≡ spent s s.indices 0 2 →
+        Made m x s q s.indices [] (by left_and (fst (top_term x q) ∷ snd (top_term x q) ∷ [])) and_next (lent x.words t1 w2) s1 q3
+    unfolding go_on
+    left_and_made {t1} {w1} {w2} {s1} {q1} {q2} {q3} t eq et ew eq2 ew2 eq3 es =
+        let p = passes t in
+        let h = fields eq in
+        let h2 = fields eq2 in
+        let h3 = fields eq3 in
+        let few : (s.formulas + 0 ≤ 65536) × (s.terms + 2 ≤ 65536) = omega (arith, p, rep.rooms) in
+        let narrow : top_term x q < 65536 = omega (arith, top_inside.term_in) in
+        let i : ℕ = top_formula x q in
+        made_of left_and s.indices (fst (top_term x q) ∷ snd (top_term x q) ∷ []) and_next rep words_none et
+        (fits16 (fst (top_term x q)) narrow tt, (fits16 (snd (top_term x q)) narrow tt, tt)) es p.indices (omega (arith, p.formulas))
+        p.terms
+        (area_push (area_push (area_top q3.level (omega arith) (omega arith) eq) (left_at x.words i) s.terms
+        (omega (arith, and_parts))
+        (omega arith) few (omega (arith, p.contexts)) (omega arith) ew eq2) (right_at x.words i) (s.terms + 1)
+        (omega (arith, and_parts))
+        (omega arith) few (omega (arith, p.contexts)) (omega arith) ew2 eq3)
+        (omega arith) refl refl (omega arith) (omega arith)
 
     pub left_and_lem : {x1 y : Lent} {s1 : State} {q1 : Sequent} {r : Answer} →
         Made m x s q s.indices [] (by left_and (fst (top_term x q) ∷ snd (top_term x q) ∷ [])) and_next x1 s1 q1 →

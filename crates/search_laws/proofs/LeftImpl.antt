@@ -1,6 +1,7 @@
 -- The ways of left through an implication A→C that need no new formula: by the shape of A. Assumes nothing.
+use Rattle.std.specs.Prelude.{Ok, Err}
 use Prim.Native.Nat.{ℕ, zero, suc, ◌+◌, ◌-◌, ◌<◌, ◌≤◌}
-use mathlib.Core.Path.{◌≡◌, refl, sym, ap, ◌∙◌}
+use mathlib.Core.Path.{◌≡◌, refl, ap, ◌∙◌}
 use mathlib.Core.List.{List, [], ◌∷◌, ◌++◌}
 use native.Mathlib.Omega.{arith}
 use native.Mathlib.Numerals.{add-one}
@@ -13,9 +14,8 @@ use Rattle.theory.specs.Search.{entry, go_on, on_left, on_impl, rule}
 use Rattle.meter.specs.declared.State.{State}
 use Rattle.meter.specs.declared.Sequent.{Sequent}
 use Rattle.meter.specs.declared.Limits.{Limits}
-use Rattle.meter.specs.declared.Answer.{Answer}
-use Rattle.meter.specs.declared.Answer.TheVariants.{Short}
-use Rattle.meter.specs.Moves.{spent, limits_of}
+use Rattle.meter.specs.declared.Missed.{Missed}
+use Rattle.meter.specs.Moves.{Answer, spent, limits_of}
 use Rattle.context.specs.Moves.{pushed, popped}
 use Rattle.context.specs.Area.{Rec, rec, push_place}
 use Rattle.search_laws.specs.Reading.{Lent, lent, kind_at, left_at, right_at, shape_at, entry_at, seq_of, Shows, put_nodes}
@@ -38,21 +38,15 @@ abbrev pub next_by : Lent → Sequent → List M.Entry → M.Sequent
 next_by x q es = go_on (seq_of x.records q) (seq_of x.records q).unordered (es ++ others x q)
 
 -- how many records that makes
-pub next_count : (x : Lent) (q q1 : Sequent) (es : List M.Entry) → q1 ≡ popped q → count
-    (next_by x q es) ≡ q1.unordered + q1.ordered + length es
+pub next_count : (x : Lent) (q : Sequent) (es : List M.Entry) → count (next_by x q es) ≡ q.unordered + (q.ordered - 1) + length es
 unfolding go_on count
-next_count x q q1 es e =
-    let h = fields e in
+next_count x q es =
     omega (
       arith,
       length-append es (others x q),
       unordered_length x.records q.level q.unordered,
       ordered_length x.records q.level (q.ordered - 1),
     )
-
-pub next_level : (x : Lent) (q q1 : Sequent) (es : List M.Entry) → q1 ≡ popped q → q1.level ≡ (next_by x q es).level
-unfolding go_on
-next_level x q q1 es e = ap (λ (v : Sequent). v.level) e
 
 module _ {m : Limits} (taken : List (List ℕ)) {x : Lent} {s : State} {q : Sequent} (rep : Rep m x s q) (some : 0 < q.ordered)
     (e : kind_at x.words (top_formula x q) ≡ 5) where
@@ -120,31 +114,31 @@ module _ {m : Limits} (taken : List (List ℕ)) {x : Lent} {s : State} {q : Sequ
     unfolding on_impl shape_of entry_at
     true_by S sh d = impl_by (shape_as x.words (from_of x q) k) S sh d ∙ rw (sh.many, sh.used, add-one)
 
-    module _ {n : ℕ} {q1 : Sequent} (eq : q1 ≡ popped q)
-        (t : Tested m n s.indices s.formulas (s.terms + 2) (q1.unordered + q1.ordered + 1) q1.level) where
-      pub left_true_impl_short : (n ≡ 0 → ⊥) → Goes M.by_left m taken x s q (Short n s) x
-      left_true_impl_short z =
-          goes_by true_by (gives_short [] (by true_impl (unit ∷ app (top_term x q) s.terms ∷ [])) true_next _ t z (omega arith) refl
-          (sym (next_count x q q1 (entry (to_of x q) (s.terms + 1) ∷ []) eq)) (next_level x q q1 (entry (to_of x q) (s.terms + 1) ∷ []) eq)
-          rep.within)
+    pub left_true_impl_short : {e : Missed} → Tested m (Err e) s s.indices s.formulas (s.terms + 2) (q.unordered + q.ordered) q.level →
+        Goes M.by_left m taken x s q (Err e) x
+    unfolding go_on
+    left_true_impl_short t =
+        goes_by true_by (gives_short [] (by true_impl (unit ∷ app (top_term x q) s.terms ∷ [])) true_next _ t (omega arith) refl
+        (omega (arith, next_count x q (entry (to_of x q) (s.terms + 1) ∷ []))) refl rep.within)
 
-      pub left_true_impl_made : {t1 : List ℕ} {w1 : List Rec} {s1 : State} {q2 : Sequent} → n ≡ 0 →
-          t1 ≡ put_nodes x.numbers s.terms (unit ∷ app (top_term x q) s.terms ∷ []) →
-          w1 ≡ set x.records (push_place q1) (rec (to_of x q) (s.terms + 1)) → q2 ≡ pushed q1 → s1 ≡ spent s s.indices 0 2 →
-          Made m x s q s.indices [] (by true_impl (unit ∷ app (top_term x q) s.terms ∷ [])) true_next (lent x.words t1 w1) s1 q2
-      unfolding go_on
-      left_true_impl_made {t1} {w1} {s1} {q2} z et ew eq2 es =
-          let p = passes t z in
-          let h = fields eq in
-          let h2 = fields eq2 in
-          let few : (s.formulas + 0 ≤ 65536) × (s.terms + 2 ≤ 65536) = omega (arith, p, rep.rooms) in
-          let below : top_term x q < s.terms = (top_inside taken rep some).term_in in
-          made_of true_impl s.indices (unit ∷ app (top_term x q) s.terms ∷ []) true_next rep words_none et
-          (fits16 unit tt tt, (fits16 (app (top_term x q) s.terms) (omega arith) tt, tt)) es p.indices (omega (arith, p.formulas))
-          p.terms
-          (area_push (area_top taken rep some q2.level (omega arith) (omega arith) eq) (to_of x q) (s.terms + 1) (omega (arith, ends_in))
-          (omega arith) few (omega (arith, p.contexts)) (omega arith) ew eq2)
-          (omega arith) refl refl (omega arith) (omega arith)
+    pub left_true_impl_made : {t1 : List ℕ} {w1 : List Rec} {s1 : State} {q1 q2 : Sequent} →
+        Tested m (Ok tt) s s.indices s.formulas (s.terms + 2) (q.unordered + q.ordered) q.level → q1 ≡ popped q →
+        t1 ≡ put_nodes x.numbers s.terms (unit ∷ app (top_term x q) s.terms ∷ []) →
+        w1 ≡ set x.records (push_place q1) (rec (to_of x q) (s.terms + 1)) → q2 ≡ pushed q1 → s1 ≡ spent s s.indices 0 2 →
+        Made m x s q s.indices [] (by true_impl (unit ∷ app (top_term x q) s.terms ∷ [])) true_next (lent x.words t1 w1) s1 q2
+    unfolding go_on
+    left_true_impl_made {t1} {w1} {s1} {q1} {q2} t eq et ew eq2 es =
+        let p = passes t in
+        let h = fields eq in
+        let h2 = fields eq2 in
+        let few : (s.formulas + 0 ≤ 65536) × (s.terms + 2 ≤ 65536) = omega (arith, p, rep.rooms) in
+        let below : top_term x q < s.terms = (top_inside taken rep some).term_in in
+        made_of true_impl s.indices (unit ∷ app (top_term x q) s.terms ∷ []) true_next rep words_none et
+        (fits16 unit tt tt, (fits16 (app (top_term x q) s.terms) (omega arith) tt, tt)) es p.indices (omega (arith, p.formulas))
+        p.terms
+        (area_push (area_top taken rep some q2.level (omega arith) (omega arith) eq) (to_of x q) (s.terms + 1) (omega (arith, ends_in))
+        (omega arith) few (omega (arith, p.contexts)) (omega arith) ew eq2)
+        (omega arith) refl refl (omega arith) (omega arith)
 
     pub left_true_impl : {x1 y : Lent} {s1 : State} {q1 : Sequent} {r : Answer} →
         Made m x s q s.indices [] (by true_impl (unit ∷ app (top_term x q) s.terms ∷ [])) true_next x1 s1 q1 →

@@ -1,4 +1,5 @@
 -- The way of left through Or: a name, its Ident and the first half a level up; the same for the second; the Case. Assumes nothing.
+use Rattle.std.specs.Prelude.{Ok, Err}
 use Prim.Native.Nat.{ℕ, ◌+◌, ◌-◌, ◌<◌, ◌≤◌}
 use mathlib.Core.Path.{◌≡◌, refl, sym, ap, ap₂, ◌∙◌}
 use mathlib.Core.List.{List, [], ◌∷◌}
@@ -14,9 +15,9 @@ use Rattle.theory.specs.Search.{name, on_left, rule}
 use Rattle.meter.specs.declared.State.{State}
 use Rattle.meter.specs.declared.Sequent.{Sequent}
 use Rattle.meter.specs.declared.Limits.{Limits}
-use Rattle.meter.specs.declared.Answer.{Answer}
-use Rattle.meter.specs.declared.Answer.TheVariants.{Found, Short}
-use Rattle.meter.specs.Moves.{most, spent, limits_of}
+use Rattle.meter.specs.declared.Found.{Found}
+use Rattle.meter.specs.declared.Missed.{Missed}
+use Rattle.meter.specs.Moves.{Answer, most, spent, limits_of}
 use Rattle.context.specs.Moves.{upped, pushed, popped}
 use Rattle.context.specs.Area.{Rec, rec, raised, push_place}
 use Rattle.search_laws.specs.Reading.{Lent, lent, kind_at, left_at, right_at, shape_at, entry_at, ordered_in, seq_of, Shows, put_nodes}
@@ -32,7 +33,6 @@ use Rattle.search_laws.proofs.Write.{words_none}
 use Rattle.search_laws.proofs.Charge.{passes}
 use Rattle.search_laws.proofs.Making.{made_of}
 use Rattle.search_laws.proofs.Branch.{gives_as, goes_by, gives_close, gives_short, gives_lost, gives_found, back_found}
-use Rattle.search_laws.proofs.Combine.{Lost}
 use Rattle.search_laws.proofs.Look.{shape_as, children, fits16}
 use Rattle.search_laws.proofs.Left.{top_inside, left_by_lem, area_top}
 
@@ -42,24 +42,24 @@ module _ {m : Limits} (taken : List (List ℕ)) {x : Lent} {s : State} {q : Sequ
   abbrev pub half_next : ℕ → M.Sequent
   half_next a = or_next (seq_of x.records q) (others x q) a s.terms
 
-  module _ {n : ℕ} {q1 : Sequent} (eq : q1 ≡ popped q)
-      (t : Tested m n (g + 1) s.formulas (s.terms + 1) (q1.unordered + q1.ordered + 1) (q1.level + 1)) where
-    pub half_short : (a : ℕ) (k : ℕ → M.State → M.State → M.Answer) → (n ≡ 0 → ⊥) →
-        Gives (λ d S. charge (limits_of m) (g + 1) [] (by left_or (ident (name g) ∷ [])) (half_next a) S (k d S)) m x s q (Short n s) x
+  module _ {q1 : Sequent} (eq : q1 ≡ popped q) where
+    pub half_short : (a : ℕ) (k : ℕ → M.State → M.State → M.Answer) {e : Missed} → Tested m (Err e) s (g + 1) s.formulas (s.terms + 1) (q1.unordered + q1.ordered + 1) (q1.level + 1) →
+        Gives (λ d S. charge (limits_of m) (g + 1) [] (by left_or (ident (name g) ∷ [])) (half_next a) S (k d S)) m x s q (Err e) x
     unfolding or_next count
-    half_short a k z =
+    half_short a k t =
         let h = fields eq in
         let u = unordered_length x.records q.level q.unordered in
         let o = ordered_length x.records q.level (q.ordered - 1) in
-        gives_short [] (by left_or (ident (name g) ∷ [])) (half_next a) k t z (omega arith) refl (omega arith) (omega arith) rep.within
+        gives_short [] (by left_or (ident (name g) ∷ [])) (half_next a) k t (omega arith) refl (omega arith) (omega arith) rep.within
 
-    pub half_made : {a : ℕ} {t1 : List ℕ} {w1 w2 : List Rec} {s1 : State} {q2 q3 : Sequent} → n ≡ 0 → a < s.formulas →
+    pub half_made : {a : ℕ} {t1 : List ℕ} {w1 w2 : List Rec} {s1 : State} {q2 q3 : Sequent} →
+        Tested m (Ok tt) s (g + 1) s.formulas (s.terms + 1) (q1.unordered + q1.ordered + 1) (q1.level + 1) → a < s.formulas →
         t1 ≡ put_nodes x.numbers s.terms (ident (name g) ∷ []) → w1 ≡ raised x.records q1 → q2 ≡ upped q1 q.goal →
         w2 ≡ set w1 (push_place q2) (rec a s.terms) → q3 ≡ pushed q2 → s1 ≡ spent s (g + 1) 0 1 →
         Made m x s q (g + 1) [] (by left_or (ident (name g) ∷ [])) (half_next a) (lent x.words t1 w2) s1 q3
     unfolding or_next
-    half_made {a} {t1} {w1} {w2} {s1} {q2} {q3} z a_in et ew eq2 ew2 eq3 es =
-        let p = passes t z in
+    half_made {a} {t1} {w1} {w2} {s1} {q2} {q3} t a_in et ew eq2 ew2 eq3 es =
+        let p = passes t in
         let h = fields eq in
         let h2 = fields eq2 in
         let h3 = fields eq3 in
@@ -93,29 +93,27 @@ module _ {m : Limits} (taken : List (List ℕ)) {x : Lent} {s : State} {q : Sequ
       let f : fresh taken S.used ≡ g = ap (fresh taken) sh.used ∙ sym eg in
       left_by_lem taken rep some or_shape S sh d ∙ rw (f, sh.many, add-one)
 
-  pub left_or_short : {n : ℕ} {q1 : Sequent} → q1 ≡ popped q →
-      Tested m n (g + 1) s.formulas (s.terms + 1) (q1.unordered + q1.ordered + 1) (q1.level + 1) → (n ≡ 0 → ⊥) →
-      Goes M.by_left m taken x s q (Short n s) x
-  left_or_short eq t z = goes_by or_by (half_short taken rep some eg eq t (left_at x.words (top_formula x q)) _ z)
+  pub left_or_short : {e : Missed} {q1 : Sequent} → q1 ≡ popped q → Tested m (Err e) s (g + 1) s.formulas (s.terms + 1) (q1.unordered + q1.ordered + 1) (q1.level + 1) →
+      Goes M.by_left m taken x s q (Err e) x
+  left_or_short eq t = goes_by or_by (half_short taken rep some eg eq (left_at x.words (top_formula x q)) _ t)
 
   module _ {x1 y : Lent} {s1 : State} {q1 : Sequent} (mk : Made m x s q (g + 1) [] (by left_or (ident (name g) ∷ []))
       (half_next taken rep some eg (left_at x.words (top_formula x q))) x1 s1 q1) where
-    pub left_or_lost : {r : Answer} → Lost r → Meets M.by_left m taken x1 s1 q1 r y → Goes M.by_left m taken x s q r y
-    left_or_lost l p = goes_by or_by (gives_lost mk _ l p)
+    pub left_or_lost : {e : Missed} → Meets M.by_left m taken x1 s1 q1 (Err e) y → Goes M.by_left m taken x s q (Err e) y
+    left_or_lost p = goes_by or_by (gives_lost mk _ p)
 
     -- the first half is found, and what is left of the rule gives r; h and b are read where the first half left the lists
-    pub left_or_then : {i h b : ℕ} {s2 : State} {r : Answer} {z : Lent} → q.level < q1.level → Meets M.by_left m taken x1 s1 q1
-        (Found i s2) y →
+    pub left_or_then : {f : Found} {h b : ℕ} {r : Answer} {z : Lent} → q.level < q1.level → Meets M.by_left m taken x1 s1 q1 (Ok f) y →
         h ≡ top_term x q → b ≡ right_at x.words (top_formula x q) →
-        Gives (λ d S. or_second m taken (seq_of y.records q) (others y q) b h (name g) d i S) m y s2 q r z →
+        Gives (λ d S. or_second m taken (seq_of y.records q) (others y q) b h (name g) d f.node S) m y f.state q r z →
         Goes M.by_left m taken x s q r z
-    left_or_then {i} {h} {b} up p eh eb k =
+    left_or_then {f} {h} {b} up p eh eb k =
         let back = back_found mk rep up p.kept in
         goes_by or_by (gives_found mk _ rep up p (gives_as _
         (λ S sh d. ap₂ (λ (Q : M.Sequent) (os : List M.Entry). or_second m taken Q os (right_at x.words (top_formula x q)) (top_term x q)
-        (name g) d i S)
+        (name g) d f.node S)
         (sym back.seq) (sym (others_back back)) ∙ ap₂ (λ (b h : ℕ). or_second m taken (seq_of y.records q) (others y q) b h
-        (name g) d i S)
+        (name g) d f.node S)
         (sym eb) (sym eh)) k))
       where
         others_back : {s2 : State} → Back m x s q s2 y → others y q ≡ others x q
@@ -137,19 +135,19 @@ module _ {m : Limits} (taken : List (List ℕ)) {x : Lent} {s : State} {q : Sequ
       let f : fresh taken S.used ≡ g = ap (fresh taken) sh.used ∙ sym eg in
       rw (f, sh.many, add-one)
 
-  pub or_second_short : {n : ℕ} {q1 : Sequent} → q1 ≡ popped q →
-      Tested m n (g + 1) s.formulas (s.terms + 1) (q1.unordered + q1.ordered + 1) (q1.level + 1) → (n ≡ 0 → ⊥) →
-      Gives (λ d S. or_second m taken (seq_of x.records q) (others x q) b h v d i S) m x s q (Short n s) x
-  or_second_short eq t z = gives_as _ second_by (half_short taken rep some eg eq t b _ z)
+  pub or_second_short : {e : Missed} {q1 : Sequent} → q1 ≡ popped q → Tested m (Err e) s (g + 1) s.formulas (s.terms + 1) (q1.unordered + q1.ordered + 1) (q1.level + 1) →
+      Gives (λ d S. or_second m taken (seq_of x.records q) (others x q) b h v d i S) m x s q (Err e) x
+  or_second_short eq t = gives_as _ second_by (half_short taken rep some eg eq b _ t)
 
   module _ {x1 y : Lent} {s1 : State} {q1 : Sequent}
       (mk : Made m x s q (g + 1) [] (by left_or (ident (name g) ∷ [])) (half_next taken rep some eg b) x1 s1 q1) where
-    pub or_second_lost : {r : Answer} → Lost r → Meets M.by_left m taken x1 s1 q1 r y →
-        Gives (λ d S. or_second m taken (seq_of x.records q) (others x q) b h v d i S) m x s q r y
-    or_second_lost l p = gives_as _ second_by (gives_lost mk _ l p)
+    pub or_second_lost : {e : Missed} → Meets M.by_left m taken x1 s1 q1 (Err e) y →
+        Gives (λ d S. or_second m taken (seq_of x.records q) (others x q) b h v d i S) m x s q (Err e) y
+    or_second_lost p = gives_as _ second_by (gives_lost mk _ p)
 
-    pub or_second_found : {j : ℕ} {s2 : State} {r : Answer} {t1 : List ℕ} → h < s.terms → i < s.terms → v < 65536 → g < most →
-        q.level < q1.level → Meets M.by_left m taken x1 s1 q1 (Found j s2) y → Closes m y.numbers s2 (case h v i (name g) j) r t1 →
+    pub or_second_found : {f : Found} {r : Answer} {t1 : List ℕ} → h < s.terms → i < s.terms → v < 65536 → g < most →
+        q.level < q1.level → Meets M.by_left m taken x1 s1 q1 (Ok f) y →
+        Closes m y.numbers f.state (case h v i (name g) f.node) r t1 →
         Gives (λ d S. or_second m taken (seq_of x.records q) (others x q) b h v d i S) m x s q r (lent y.words t1 y.records)
     unfolding or_end
     or_second_found hh hi hv hg up p c =

@@ -9,7 +9,6 @@ use borrow.Author.Tests.{le-leb, lt-leb}
 use Rattle.theory.specs.Form.{Book}
 use Rattle.theory.specs.Term.{Piece, Rule, Node, node, by}
 use Rattle.theory.specs.Layout.{node_width}
-use Rattle.theory.specs.Refusal.{lack_number}
 use Rattle.theory.specs.Meter as M
 use Rattle.theory.specs.Meter.{limited, fits, count, spend}
 use Rattle.theory.specs.Search.{close}
@@ -17,8 +16,7 @@ use Rattle.proof_term.proofs.NodeLaws.{Fitting}
 use Rattle.meter.specs.declared.State.{State}
 use Rattle.meter.specs.declared.Sequent.{Sequent}
 use Rattle.meter.specs.declared.Limits.{Limits}
-use Rattle.meter.specs.declared.Answer.{Answer}
-use Rattle.meter.specs.Moves.{most, spent, limits_of}
+use Rattle.meter.specs.Moves.{Answer, most, spent, limits_of, limit_of}
 use Rattle.context.specs.Area.{Rec}
 use Rattle.search_laws.specs.Reading.{Lent, lent, book, seq_of, Shows, put_nodes}
 use Rattle.search_laws.specs.Keeping.{Laid, Rooms, Within, Rep, Frame, Kept}
@@ -119,7 +117,7 @@ module _ {m : Limits} {x : Lent} {s : State} {p : Piece} (rooms : Rooms m x) (fi
   -- the last node of a rule is what theory's rule ends with
   pub close_comes : {S : M.State} (rule : Rule) → Shows x s S → {r : Answer} {t1 : List ℕ} → Closes m x.numbers s p r t1 →
       Comes (lent x.words t1 x.records) r (λ d. close (limited (limits_of m)) (node rule p) S)
-  unfolding close spend fits lack_number
+  unfolding close spend fits limit_of
   close_comes {S} rule sh (closes_short h) = comes_now (λ d. close (limited (limits_of m)) (node rule p) S)
       (λ d. rw (spend, lt-leb (length S.nodes + 1) m.terms (omega (arith, sh.many)))) (says_short M.Terms refl sh.steps)
   close_comes {S} rule sh (closes_node h) = comes_now (λ d. close (limited (limits_of m)) (node rule p) S)

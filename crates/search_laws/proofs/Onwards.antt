@@ -7,8 +7,7 @@ use Rattle.theory.specs.Meter as M
 use Rattle.meter.specs.declared.State.{State}
 use Rattle.meter.specs.declared.Sequent.{Sequent}
 use Rattle.meter.specs.declared.Limits.{Limits}
-use Rattle.meter.specs.declared.Answer.{Answer}
-use Rattle.meter.specs.Moves.{stepped}
+use Rattle.meter.specs.Moves.{Answer, stepped}
 use Rattle.context.specs.Area.{Rec}
 use Rattle.search_laws.specs.Reading.{Lent}
 use Rattle.search_laws.specs.Keeping.{Rep}

@@ -1,4 +1,5 @@
 -- The positions of rule 4 one after another: what the loop over them holds, and what it ends with. Assumes nothing.
+use Rattle.std.specs.Prelude.{Ok, Err}
 use Prim.Native.Nat.{ℕ, suc, ◌+◌, ◌-◌, ◌*◌, ◌<◌, ◌≤◌}
 use mathlib.Core.Path.{◌≡◌, refl, sym, ap, ap₂, ◌∙◌}
 use mathlib.Core.List.{List, []}
@@ -15,9 +16,10 @@ use Rattle.theory.proofs.Charges.{restart}
 use Rattle.meter.specs.declared.State.{State}
 use Rattle.meter.specs.declared.Sequent.{Sequent}
 use Rattle.meter.specs.declared.Limits.{Limits}
-use Rattle.meter.specs.declared.Answer.{Answer}
-use Rattle.meter.specs.declared.Answer.TheVariants.{Found, Failed, Short}
-use Rattle.meter.specs.Moves.{limits_of}
+use Rattle.meter.specs.declared.Found.{Found}
+use Rattle.meter.specs.declared.Limit.{Limit}
+use Rattle.meter.specs.declared.Missed.TheVariants.{Failed, Short}
+use Rattle.meter.specs.Moves.{Answer, limits_of}
 use Rattle.context.specs.Moves.{stretch}
 use Rattle.context.specs.Area.{zeroed}
 use Rattle.search_laws.specs.Tables.{upto, from}
@@ -28,7 +30,7 @@ use Rattle.search_laws.specs.Parts.{ranging, Ranges}
 use Rattle.search_laws.specs.Trying.{Next, records_before, records_from, trying, HandsOn, Past, TriesAt}
 use Rattle.search_laws.proofs.Tables.{upto_split}
 use Rattle.search_laws.proofs.Same.{frame_refl, frame_less, frame_trans}
-use Rattle.search_laws.proofs.Combine.{comes_as, comes_now, kept_lost}
+use Rattle.search_laws.proofs.Combine.{comes_as, comes_now}
 use Rattle.search_laws.proofs.Branch.{back_kept}
 use Rattle.search_laws.proofs.Making.{shows_after}
 use Rattle.search_laws.proofs.FourWays.{entry_back, before_back, from_back}
@@ -154,7 +156,7 @@ module _ {m : Limits} {taken : List (List ℕ)} {x y : Lent} {s s1 : State} {q :
     }
 
     -- a try that fails
-    pub going_fails : {s2 : State} {z : Lent} → TriesAt m taken y s1 q i (Failed s2) z → Going m taken x s q (i + 1) z s2
+    pub going_fails : {s2 : State} {z : Lent} → TriesAt m taken y s1 q i (Err (Failed s2)) z → Going m taken x s q (i + 1) z s2
     going_fails {s2} t = record {
       past = past_then g.past t.is.0;
       onward = λ seen S sh.
@@ -180,23 +182,27 @@ module _ {m : Limits} {taken : List (List ℕ)} {x y : Lent} {s s1 : State} {q :
       };
     }
 
-    pub ranges_found : {j : ℕ} {s2 : State} {z : Lent} → TriesAt m taken y s1 q i (Found j s2) z → Ranges m taken x s q (Found j s2) z
+    pub ranges_found : {f : Found} {z : Lent} → TriesAt m taken y s1 q i (Ok f) z → Ranges m taken x s q (Ok f) z
     ranges_found t = ends_with t.is
 
-    pub ranges_short : {n : ℕ} {s2 : State} {z : Lent} → TriesAt m taken y s1 q i (Short n s2) z → Ranges m taken x s q (Short n s2) z
+    pub ranges_short : {n : Limit} {s2 : State} {z : Lent} → TriesAt m taken y s1 q i (Err (Short n s2)) z →
+        Ranges m taken x s q (Err (Short n s2)) z
     ranges_short t = ends_with t.is
 
   -- no position is left: rule 5
-  pub ranges_end : q.unordered ≤ i → Ranges m taken x s q (Failed s1) y
+  pub ranges_end : q.unordered ≤ i → Ranges m taken x s q (Err (Failed s1)) y
   unfolding positions from fail
   ranges_end h = record {
     gives = λ seen. record {
       means = λ S sh. let o = g.onward seen S sh in
-          o.carries (Failed s1) y (comes_now (λ d. ranging_from m taken x q i d o.seen (restart S s1.indices s1.steps))
+          o.carries (Err (Failed s1)) y (comes_now (λ d. ranging_from m taken x q i d o.seen (restart S s1.indices s1.steps))
           (λ d. ap (λ (n : ℕ). positions (limited (limits_of m)) taken (asks m taken d) (seq_of x.records q) (records_before x q i)
           (from (λ j. entry_at x.records (q.level * stretch + j)) i n) o.seen (restart S s1.indices s1.steps))
           (let p : q.unordered - i ≡ 0 = omega arith in p)) (says_failed (model o.seen) refl refl));
-      kept = kept_lost (Failed s1) tt (frame_less (omega arith) (omega arith) (omega arith) g.past.back.frame)
-          g.past.back.rep.within;
+      kept = record {
+        frame = frame_less (omega arith) (omega arith) (omega arith) g.past.back.frame;
+        within = g.past.back.rep.within;
+        after = tt;
+      };
     };
   }

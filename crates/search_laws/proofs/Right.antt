@@ -1,4 +1,5 @@
 -- The ways through right: True, And with its two premises, and what is left to left. Assumes nothing.
+use Rattle.std.specs.Prelude.{Ok, Err}
 use Prim.Native.Nat.{ℕ, zero, suc, ◌+◌, ◌<◌, ◌≤◌}
 use mathlib.Core.Path.{◌≡◌, refl, sym, ap, ap₂, ◌∙◌, subst}
 use mathlib.Core.List.{List, []}
@@ -12,9 +13,9 @@ use Rattle.theory.specs.Search.{goal_up, on_right, rule}
 use Rattle.meter.specs.declared.State.{State}
 use Rattle.meter.specs.declared.Sequent.{Sequent}
 use Rattle.meter.specs.declared.Limits.{Limits}
-use Rattle.meter.specs.declared.Answer.{Answer}
-use Rattle.meter.specs.declared.Answer.TheVariants.{Found, Short}
-use Rattle.meter.specs.Moves.{limits_of}
+use Rattle.meter.specs.declared.Found.{Found}
+use Rattle.meter.specs.declared.Missed.{Missed}
+use Rattle.meter.specs.Moves.{Answer, limits_of}
 use Rattle.context.specs.Moves.{upped}
 use Rattle.context.specs.Area.{Rec, raised}
 use Rattle.search_laws.specs.Reading.{Lent, lent, kind_at, left_at, right_at, shape_at, seq_of, Shows, put_nodes}
@@ -29,17 +30,16 @@ use Rattle.search_laws.proofs.Charge.{passes}
 use Rattle.search_laws.proofs.Making.{made_of, count_seq}
 use Rattle.search_laws.proofs.Branch.{gives_as, goes_by, gives_asked, gives_close}
 use Rattle.search_laws.proofs.Branch.{gives_short, gives_lost, gives_found, back_found}
-use Rattle.search_laws.proofs.Combine.{Lost}
 use Rattle.search_laws.proofs.Look.{shape_as, look_at, children, fits16, spent_none}
 
 -- the same sequent a level up with another goal: no words, no nodes
-pub up_made : {m : Limits} {x : Lent} {s : State} {q q1 : Sequent} {w1 : List Rec} {n g : ℕ} → Rep m x s q →
-    Tested m n s.indices s.formulas s.terms (q.unordered + q.ordered) (q.level + 1) → n ≡ 0 → g < s.formulas →
+pub up_made : {m : Limits} {x : Lent} {s : State} {q q1 : Sequent} {w1 : List Rec} {g : ℕ} → Rep m x s q →
+    Tested m (Ok tt) s s.indices s.formulas s.terms (q.unordered + q.ordered) (q.level + 1) → g < s.formulas →
     w1 ≡ raised x.records q → q1 ≡ upped q g →
     Made m x s q s.indices [] [] (goal_up (seq_of x.records q) g) (lent x.words x.numbers w1) s q1
 unfolding goal_up put_nodes
-up_made {m} {x} {s} {q} {q1} {w1} {n} {g} rep e z h ew eq =
-    let p = passes e z in
+up_made {m} {x} {s} {q} {q1} {w1} {g} rep t h ew eq =
+    let p = passes t in
     subst (λ (v : Sequent). Made m x s q s.indices [] [] (goal_up (seq_of x.records q) g) (lent x.words x.numbers w1) s v)
     (sym eq)
     (subst (λ (v : List Rec). Made m x s q s.indices [] [] (goal_up (seq_of x.records q) g) (lent x.words x.numbers v) s
@@ -51,12 +51,12 @@ up_made {m} {x} {s} {q} {q1} {w1} {n} {g} rep e z h ew eq =
     refl refl refl (omega arith)))
 
 -- no level is left for it, or another limit is passed
-pub up_short : {m : Limits} {x : Lent} {s : State} {q : Sequent} {n : ℕ} → Rep m x s q → (g : ℕ) (k : ℕ → M.State → M.State → M.Answer) →
-    Tested m n s.indices s.formulas s.terms (q.unordered + q.ordered) (q.level + 1) → (n ≡ 0 → ⊥) →
-    Gives (λ d S. charge (limits_of m) s.indices [] [] (goal_up (seq_of x.records q) g) S (k d S)) m x s q (Short n s) x
+pub up_short : {m : Limits} {x : Lent} {s : State} {q : Sequent} {e : Missed} → Rep m x s q → (g : ℕ) (k : ℕ → M.State → M.State → M.Answer) →
+    Tested m (Err e) s s.indices s.formulas s.terms (q.unordered + q.ordered) (q.level + 1) →
+    Gives (λ d S. charge (limits_of m) s.indices [] [] (goal_up (seq_of x.records q) g) S (k d S)) m x s q (Err e) x
 unfolding goal_up count
-up_short {m} {x} {s} {q} rep g k t z =
-    gives_short [] [] (goal_up (seq_of x.records q) g) k t z (omega arith) (omega arith) (sym (count_seq x.records q))
+up_short {m} {x} {s} {q} rep g k t =
+    gives_short [] [] (goal_up (seq_of x.records q) g) k t (omega arith) (omega arith) (sym (count_seq x.records q))
     (add-one q.level) rep.within
 
 -- right goes by the goal's shape
@@ -113,24 +113,24 @@ module _ {m : Limits} (taken : List (List ℕ)) {x : Lent} {s : State} {q : Sequ
         (λ S1. and_then (asks m taken d M.by_right (goal_up (seq_of x.records q) (left_at x.words q.goal)) S1)
         (and_second m taken (seq_of x.records q) (right_at x.words q.goal) d))) sh.used
 
-    pub right_and_short : {n : ℕ} → Tested m n s.indices s.formulas s.terms (q.unordered + q.ordered) (q.level + 1) →
-        (n ≡ 0 → ⊥) → Goes M.by_right m taken x s q (Short n s) x
-    right_and_short {n} t z = goes_by and_by (up_short rep (left_at x.words q.goal) _ t z)
+    pub right_and_short : {e : Missed} → Tested m (Err e) s s.indices s.formulas s.terms (q.unordered + q.ordered) (q.level + 1) →
+        Goes M.by_right m taken x s q (Err e) x
+    right_and_short t = goes_by and_by (up_short rep (left_at x.words q.goal) _ t)
 
     module _ {x1 y : Lent} {q1 : Sequent}
         (mk : Made m x s q s.indices [] [] (goal_up (seq_of x.records q) (left_at x.words q.goal)) x1 s q1) where
-      pub right_and_lost : {r : Answer} → Lost r → Meets M.by_right m taken x1 s q1 r y → Goes M.by_right m taken x s q r y
-      right_and_lost l p = goes_by and_by (gives_lost mk _ l p)
+      pub right_and_lost : {e : Missed} → Meets M.by_right m taken x1 s q1 (Err e) y → Goes M.by_right m taken x s q (Err e) y
+      right_and_lost p = goes_by and_by (gives_lost mk _ p)
 
       -- the first premise is found, and what is left of the rule gives r
-      pub right_and_then : {i : ℕ} {s2 : State} {r : Answer} {z : Lent} → q.level < q1.level →
-          Meets M.by_right m taken x1 s q1 (Found i s2) y →
-          Gives (λ d S. and_second m taken (seq_of y.records q) (right_at y.words q.goal) d i S) m y s2 q r z →
+      pub right_and_then : {f : Found} {r : Answer} {z : Lent} → q.level < q1.level →
+          Meets M.by_right m taken x1 s q1 (Ok f) y →
+          Gives (λ d S. and_second m taken (seq_of y.records q) (right_at y.words q.goal) d f.node S) m y f.state q r z →
           Goes M.by_right m taken x s q r z
-      right_and_then {i} up p g =
+      right_and_then {f} up p g =
           let back = back_found mk rep up p.kept in
           goes_by and_by (gives_found mk (and_second m taken (seq_of x.records q) (right_at x.words q.goal)) rep up p
-          (gives_as _ (λ S sh d. ap₂ (λ (Q : M.Sequent) (w : ℕ). and_second m taken Q (right_of w) d i S) (sym back.seq)
+          (gives_as _ (λ S sh d. ap₂ (λ (Q : M.Sequent) (w : ℕ). and_second m taken Q (right_of w) d f.node S) (sym back.seq)
           (sym (back.frame.words.at q.goal rep.seats.goal_in))) g))
 
 -- what is left of And after its first premise i; b is the second premise's goal
@@ -142,17 +142,17 @@ module _ {m : Limits} (taken : List (List ℕ)) {x : Lent} {s : State} {q : Sequ
   second_by S sh d = ap (λ (u : ℕ). charge (limits_of m) u [] [] (goal_up (seq_of x.records q) b) S
       (λ S1. and_then (asks m taken d M.by_right (goal_up (seq_of x.records q) b) S1) (and_end m i d))) sh.used
 
-  pub and_second_short : {n : ℕ} → Tested m n s.indices s.formulas s.terms (q.unordered + q.ordered) (q.level + 1) →
-      (n ≡ 0 → ⊥) → Gives (λ d S. and_second m taken (seq_of x.records q) b d i S) m x s q (Short n s) x
-  and_second_short t z = gives_as _ second_by (up_short rep b _ t z)
+  pub and_second_short : {e : Missed} → Tested m (Err e) s s.indices s.formulas s.terms (q.unordered + q.ordered) (q.level + 1) →
+      Gives (λ d S. and_second m taken (seq_of x.records q) b d i S) m x s q (Err e) x
+  and_second_short t = gives_as _ second_by (up_short rep b _ t)
 
   module _ {x1 y : Lent} {q1 : Sequent} (mk : Made m x s q s.indices [] [] (goal_up (seq_of x.records q) b) x1 s q1) where
-    pub and_second_lost : {r : Answer} → Lost r → Meets M.by_right m taken x1 s q1 r y →
-        Gives (λ d S. and_second m taken (seq_of x.records q) b d i S) m x s q r y
-    and_second_lost l p = gives_as _ second_by (gives_lost mk _ l p)
+    pub and_second_lost : {e : Missed} → Meets M.by_right m taken x1 s q1 (Err e) y →
+        Gives (λ d S. and_second m taken (seq_of x.records q) b d i S) m x s q (Err e) y
+    and_second_lost p = gives_as _ second_by (gives_lost mk _ p)
 
-    pub and_second_found : {j : ℕ} {s2 : State} {r : Answer} {t1 : List ℕ} → i < s.terms → q.level < q1.level →
-        Meets M.by_right m taken x1 s q1 (Found j s2) y → Closes m y.numbers s2 (pair i j) r t1 →
+    pub and_second_found : {f : Found} {r : Answer} {t1 : List ℕ} → i < s.terms → q.level < q1.level →
+        Meets M.by_right m taken x1 s q1 (Ok f) y → Closes m y.numbers f.state (pair i f.node) r t1 →
         Gives (λ d S. and_second m taken (seq_of x.records q) b d i S) m x s q r (lent y.words t1 y.records)
     unfolding and_end
     and_second_found h up p c =

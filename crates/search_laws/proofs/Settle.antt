@@ -1,5 +1,6 @@
 -- Search's rules 1 and 2 as the code comes to them: the goal's leaf is present, nothing fires, a shortage, or all that fire.
 -- Assumes nothing.
+use Rattle.std.specs.Prelude.{Ok, Err}
 use Prim.Native.Nat.{ℕ, suc, ◌+◌, ◌*◌, ◌≤◌, ◌<◌}
 use mathlib.Core.Path.{◌≡◌, refl, sym, ap, ap₂, ◌∙◌, subst}
 use mathlib.Core.Option.{Option, none, some}
@@ -22,7 +23,7 @@ use Rattle.theory.proofs.Falling.{firing_counts, fire_splits}
 use Rattle.meter.specs.declared.State.{State}
 use Rattle.meter.specs.declared.Sequent.{Sequent}
 use Rattle.meter.specs.declared.Limits.{Limits}
-use Rattle.meter.specs.declared.Answer.TheVariants.{Found, Short}
+use Rattle.meter.specs.declared.Missed.{Missed}
 use Rattle.meter.specs.Moves.{spent, limits_of}
 use Rattle.context.specs.Moves.{stretch}
 use Rattle.context.specs.Area.{Rec, formula_at, term_at}
@@ -91,7 +92,7 @@ module _ {m : Limits} (taken : List (List ℕ)) {x : Lent} {s : State} {q : Sequ
   -- rule 1: the first one's term
   pub settle_leaf : {j : ℕ} → j ≡ leaf_place x.words x.records q.level q.unordered (get_or x.words q.goal 0) → j <
       q.unordered →
-      {t : ℕ} → t ≡ term_at x.records (q.level * stretch + j) → Goes M.by_search m taken x s q (Found t s) x
+      {t : ℕ} → t ≡ term_at x.records (q.level * stretch + j) → Goes M.by_search m taken x s q (Ok (record { node = t; state = s })) x
   unfolding goal_place
   settle_leaf {j} ej h {t} et = record {
     means = λ S sh. record {
@@ -203,20 +204,20 @@ module _ {m : Limits} (taken : List (List ℕ)) {x : Lent} {s : State} {q : Sequ
           go (e ∷ es) h = refl
 
       -- no room for their nodes
-      pub settle_short : {n : ℕ} → Tested m n s.indices s.formulas (s.terms + c) q.unordered q.level → (n ≡ 0 → ⊥) →
-          Goes M.by_search m taken x s q (Short n s) x
+      pub settle_short : {e : Missed} → Tested m (Err e) s s.indices s.formulas (s.terms + c) q.unordered q.level →
+          Goes M.by_search m taken x s q (Err e) x
       unfolding next go_on
-      settle_short t z = goes_by charged (gives_short [] fired.nodes next _ t z (omega arith) (omega (arith, nodes_many))
+      settle_short t = goes_by charged (gives_short [] fired.nodes next _ t (omega arith) (omega (arith, nodes_many))
           (sym (next_count no_more))
           refl rep.within)
 
       -- all fire together: left goes on with a smaller sequent
-      pub settle_goes : {n : ℕ} → Tested m n s.indices s.formulas (s.terms + c) q.unordered q.level → n ≡ 0 →
+      pub settle_goes : Tested m (Ok tt) s s.indices s.formulas (s.terms + c) q.unordered q.level →
           {t1 : List ℕ} {w1 : List Rec} {s1 : State} {q1 : Sequent} → s1 ≡ spent s s.indices 0 c →
           Fell m x.words s.formulas s.terms x.numbers x.records q t1 w1 q1 →
           GoesLeft M.by_search m taken x s q (lent x.words t1 w1) s1 q1
       unfolding fired next go_on ordered_in downto unordered_in entry_at
-      settle_goes {n} t z {t1} {w1} {s1} {q1} es fell = record {
+      settle_goes t {t1} {w1} {s1} {q1} es fell = record {
         rep = made.rep;
         carries = λ r y p. goes_by charged (gives_on made p);
         less = falls_made M.by_search M.by_left made before after (fewer gone.new_reads (omega (arith, new_many)) gone.fires);
@@ -236,7 +237,7 @@ module _ {m : Limits} (taken : List (List ℕ)) {x : Lent} {s : State} {q : Sequ
           fits = fired_fit B (book_good rep) us small (reads_unordered rep) small s.terms
 
           p : Passes m s.indices s.formulas (s.terms + c) q.unordered q.level
-          p = passes t z
+          p = passes t
 
           many : length (pieces fired.nodes) ≡ c
           many = pieces_length fired.nodes ∙ nodes_many

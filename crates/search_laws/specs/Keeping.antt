@@ -1,14 +1,14 @@
 -- What every judgement asks of the lent lists, what it leaves alone, and what an answer leaves well-formed. Assumes nothing.
-use Rattle.std.specs.Prelude.{ℕ, ◌+◌, ◌-◌, ◌*◌, ◌≤◌, ◌<◌, ◌≡◌, List, length, get_or, take, T}
+use Rattle.std.specs.Prelude.{ℕ, ◌+◌, ◌-◌, ◌*◌, ◌≤◌, ◌<◌, ◌≡◌, List, length, get_or, take, T, Ok, Err}
 use Rattle.theory.specs.Form.{good_word}
 use Rattle.theory.specs.Layout.{node_width}
 use Rattle.theory.specs.Meter.{Entry}
 use Rattle.meter.specs.declared.State.{State}
 use Rattle.meter.specs.declared.Sequent.{Sequent}
 use Rattle.meter.specs.declared.Limits.{Limits}
-use Rattle.meter.specs.declared.Answer.{Answer}
-use Rattle.meter.specs.declared.Answer.TheVariants.{Found, Failed, Short}
-use Rattle.meter.specs.Moves.{most}
+use Rattle.meter.specs.declared.Missed.{Missed}
+use Rattle.meter.specs.declared.Missed.TheVariants.{Failed, Short}
+use Rattle.meter.specs.Moves.{Answer, most}
 use Rattle.context.specs.Moves.{stretch}
 use Rattle.context.specs.Area.{Rec, zeroed, formula_at, term_at}
 use Rattle.search_laws.specs.Reading.{Lent, unordered_in, ordered_in, seq_of}
@@ -67,10 +67,14 @@ pub record Frame (x : Lent) (nf nt l : ℕ) (y : Lent) : Type 0 where
   pub numbers : Same 0 (nt * node_width) x.numbers y.numbers
   pub records : Same zeroed (l * stretch) x.records y.records
 
+-- what has been used where there is no term, and by any answer
+abbrev pub missed_at : Missed → State
+missed_at (Failed s) = s
+missed_at (Short l s) = s
+
 abbrev pub state_of : Answer → State
-state_of (Found i s) = s
-state_of (Failed s) = s
-state_of (Short n s) = s
+state_of (Ok f) = f.state
+state_of (Err e) = missed_at e
 
 -- what was found lies below the fills, which have grown
 pub record Grown (y : Lent) (s : State) (i : ℕ) (s1 : State) : Type 0 where
@@ -80,9 +84,8 @@ pub record Grown (y : Lent) (s : State) (i : ℕ) (s1 : State) : Type 0 where
   pub root_in : i < s1.terms
 
 abbrev pub After : Lent → State → Answer → Type 0
-After y s (Found i s1) = Grown y s i s1
-After y s (Failed s1) = Unit {0}
-After y s (Short n s1) = Unit {0}
+After y s (Ok f) = Grown y s f.node f.state
+After y s (Err e) = Unit {0}
 
 -- what every caller may go on with
 pub record Kept (m : Limits) (x : Lent) (s : State) (q : Sequent) (r : Answer) (y : Lent) : Type 0 where

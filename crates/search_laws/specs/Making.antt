@@ -1,5 +1,5 @@
 -- What the code of one rule has done when the next judgement is asked: the test of its charge, and what it made and moved. Assumes nothing.
-use Rattle.std.specs.Prelude.{ℕ, ◌+◌, ◌≤◌, ◌≡◌, List, ◌++◌, length}
+use Rattle.std.specs.Prelude.{ℕ, ◌+◌, ◌≤◌, ◌≡◌, List, ◌++◌, length, Result}
 use Rattle.theory.specs.Form.{Book}
 use Rattle.theory.specs.Term.{Node}
 use Rattle.theory.specs.Meter as M
@@ -7,14 +7,15 @@ use Rattle.theory.specs.Meter.{lacking, count}
 use Rattle.meter.specs.declared.State.{State}
 use Rattle.meter.specs.declared.Sequent.{Sequent}
 use Rattle.meter.specs.declared.Limits.{Limits}
-use Rattle.meter.specs.Moves.{most, limits_of, number_of}
+use Rattle.meter.specs.declared.Missed.{Missed}
+use Rattle.meter.specs.Moves.{most, limits_of, charged}
 use Rattle.context.specs.Moves.{stretch}
 use Rattle.search_laws.specs.Reading.{Lent, book, seq_of, Shows}
 use Rattle.search_laws.specs.Keeping.{Rep, Frame}
 
--- the code's test of a charge gave n
-pub record Tested (m : Limits) (n u f t c l : ℕ) : Type 0 where
-  pub is : n ≡ number_of (lacking (limits_of m) u f t c l)
+-- the code's test of a charge at the state s answered r
+pub record Tested (m : Limits) (r : Result (Unit {0}) Missed) (s : State) (u f t c l : ℕ) : Type 0 where
+  pub is : r ≡ charged (lacking (limits_of m) u f t c l) s
 
 -- what a charge that passes no limit shows
 pub record Passes (m : Limits) (u f t c l : ℕ) : Type 0 where

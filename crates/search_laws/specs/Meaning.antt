@@ -1,7 +1,6 @@
 -- What an answer of the code says of the search as written, what a call means, and the measure of the cycle. Assumes nothing.
-use Rattle.std.specs.Prelude.{ℕ, ◌≤◌, ◌<◌, ◌≡◌, List}
+use Rattle.std.specs.Prelude.{ℕ, ◌≤◌, ◌<◌, ◌≡◌, List, Ok, Err}
 use Rattle.theory.specs.World.{Tree}
-use Rattle.theory.specs.Refusal.{lack_number}
 use Rattle.theory.specs.Premise.{asked, size_of}
 use Rattle.theory.specs.Meter as M
 use Rattle.theory.specs.Meter.{limited}
@@ -9,18 +8,20 @@ use Rattle.theory.specs.Search.{rule, run}
 use Rattle.meter.specs.declared.State.{State}
 use Rattle.meter.specs.declared.Sequent.{Sequent}
 use Rattle.meter.specs.declared.Limits.{Limits}
-use Rattle.meter.specs.declared.Answer.{Answer}
-use Rattle.meter.specs.declared.Answer.TheVariants.{Found, Failed, Short}
-use Rattle.meter.specs.Moves.{limits_of}
+use Rattle.meter.specs.declared.Found.{Found}
+use Rattle.meter.specs.declared.Limit.{Limit}
+use Rattle.meter.specs.declared.Found.{Found}
+use Rattle.meter.specs.declared.Missed.TheVariants.{Failed, Short}
+use Rattle.meter.specs.Moves.{Answer, limits_of, limit_of}
 use Rattle.context.specs.Area.{Rec}
 use Rattle.search_laws.specs.Reading.{Lent, book, seq_of, Shows}
 use Rattle.search_laws.specs.Keeping.{Rep, Kept}
 
 -- the code's answer and lists say theory's answer; a failure's tree of worlds is not in the lists
 pub data Says (y : Lent) : Answer → M.Answer → Type 0 where
-  says_found : {i : ℕ} {s : State} {S : M.State} → Shows y s S → Says y (Found i s) (M.found i S)
-  says_failed : {s : State} {u n : ℕ} (K : Tree) → u ≡ s.indices → n ≡ s.steps → Says y (Failed s) (M.failed u n K)
-  says_short : {k n : ℕ} {s : State} (l : M.Lack) → k ≡ lack_number l → n ≡ s.steps → Says y (Short k s) (M.short l n)
+  says_found : {f : Found} {S : M.State} → Shows y f.state S → Says y (Ok f) (M.found f.node S)
+  says_failed : {s : State} {u n : ℕ} (K : Tree) → u ≡ s.indices → n ≡ s.steps → Says y (Err (Failed s)) (M.failed u n K)
+  says_short : {k : Limit} {n : ℕ} {s : State} (l : M.Lack) → k ≡ limit_of l → n ≡ s.steps → Says y (Err (Short k s)) (M.short l n)
 
 -- from some depth on the computation C comes to one answer, which r and y say
 pub record Comes (y : Lent) (r : Answer) (C : ℕ → M.Answer) : Type 0 where

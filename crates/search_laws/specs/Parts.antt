@@ -9,8 +9,7 @@ use Rattle.theory.specs.Search.{name, goal_up, entry, close, bare, positions}
 use Rattle.meter.specs.declared.State.{State}
 use Rattle.meter.specs.declared.Sequent.{Sequent}
 use Rattle.meter.specs.declared.Limits.{Limits}
-use Rattle.meter.specs.declared.Answer.{Answer}
-use Rattle.meter.specs.Moves.{limits_of}
+use Rattle.meter.specs.Moves.{Answer, limits_of}
 use Rattle.search_laws.specs.Reading.{Lent, seq_of}
 use Rattle.search_laws.specs.Meaning.{asks, Gives}
 

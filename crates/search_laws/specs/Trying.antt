@@ -1,5 +1,5 @@
 -- Rule 4 at one position: what theory does there, and what the code's try of it comes to. Assumes nothing.
-use Rattle.std.specs.Prelude.{ℕ, suc, ◌+◌, ◌*◌, ◌-◌, ◌≡◌, List, [], ◌∷◌, ◌++◌, length}
+use Rattle.std.specs.Prelude.{ℕ, suc, ◌+◌, ◌*◌, ◌-◌, ◌≡◌, List, [], ◌∷◌, ◌++◌, length, Ok, Err}
 use Rattle.theory.specs.Form.{look}
 use Rattle.theory.specs.Term.{by, app, search4}
 use Rattle.theory.specs.World.{Seen, failed_second}
@@ -9,9 +9,8 @@ use Rattle.theory.specs.Search.{entry, nest, try_at}
 use Rattle.meter.specs.declared.State.{State}
 use Rattle.meter.specs.declared.Sequent.{Sequent}
 use Rattle.meter.specs.declared.Limits.{Limits}
-use Rattle.meter.specs.declared.Answer.{Answer}
-use Rattle.meter.specs.declared.Answer.TheVariants.{Found, Failed, Short}
-use Rattle.meter.specs.Moves.{limits_of}
+use Rattle.meter.specs.declared.Missed.TheVariants.{Failed, Short}
+use Rattle.meter.specs.Moves.{Answer, limits_of}
 use Rattle.context.specs.Moves.{stretch}
 use Rattle.search_laws.specs.Tables.{from}
 use Rattle.search_laws.specs.Reading.{Lent, entry_at, unordered_in, seq_of, Shows}
@@ -69,9 +68,9 @@ pub record Past (m : Limits) (x : Lent) (s : State) (q : Sequent) (s1 : State) (
 
 -- what a try at position i comes to
 abbrev pub Tried : Limits → List (List ℕ) → Lent → State → Sequent → ℕ → Answer → Lent → Type 0
-Tried m taken x s q i (Found j s1) y = (next : Next) (seen : Seen) → Gives (trying m taken x q i next seen) m x s q (Found j s1) y
-Tried m taken x s q i (Short n s1) y = (next : Next) (seen : Seen) → Gives (trying m taken x q i next seen) m x s q (Short n s1) y
-Tried m taken x s q i (Failed s1) y = Past m x s q s1 y × ((next : Next) (seen : Seen) (S : M.State) → Shows x s S →
+Tried m taken x s q i (Ok f) y = (next : Next) (seen : Seen) → Gives (trying m taken x q i next seen) m x s q (Ok f) y
+Tried m taken x s q i (Err (Short l s1)) y = (next : Next) (seen : Seen) → Gives (trying m taken x q i next seen) m x s q (Err (Short l s1)) y
+Tried m taken x s q i (Err (Failed s1)) y = Past m x s q s1 y × ((next : Next) (seen : Seen) (S : M.State) → Shows x s S →
     HandsOn next S s1 (λ d. trying m taken x q i next seen d S))
 
 pub record TriesAt (m : Limits) (taken : List (List ℕ)) (x : Lent) (s : State) (q : Sequent) (i : ℕ) (r : Answer) (y : Lent) : Type 0 where
@@ -79,11 +78,11 @@ pub record TriesAt (m : Limits) (taken : List (List ℕ)) (x : Lent) (s : State)
 
 -- what the second premise of a try comes to; s is the state before the try, s2 the one after its first premise, found at node t
 abbrev pub Finished : Limits → List (List ℕ) → Lent → State → State → Sequent → ℕ → ℕ → ℕ → Answer → Lent → Type 0
-Finished m taken x s s2 q i c t (Found j s1) y = (next : Next) (seen : Seen) (S : M.State) →
-    Gives (λ d S2. second_try m taken x q i c next seen S d t S2) m x s2 q (Found j s1) y
-Finished m taken x s s2 q i c t (Short n s1) y = (next : Next) (seen : Seen) (S : M.State) →
-    Gives (λ d S2. second_try m taken x q i c next seen S d t S2) m x s2 q (Short n s1) y
-Finished m taken x s s2 q i c t (Failed s1) y = Past m x s q s1 y × ((next : Next) (seen : Seen) (S S2 : M.State) → Shows x s2 S2 →
+Finished m taken x s s2 q i c t (Ok f) y = (next : Next) (seen : Seen) (S : M.State) →
+    Gives (λ d S2. second_try m taken x q i c next seen S d t S2) m x s2 q (Ok f) y
+Finished m taken x s s2 q i c t (Err (Short l s1)) y = (next : Next) (seen : Seen) (S : M.State) →
+    Gives (λ d S2. second_try m taken x q i c next seen S d t S2) m x s2 q (Err (Short l s1)) y
+Finished m taken x s s2 q i c t (Err (Failed s1)) y = Past m x s q s1 y × ((next : Next) (seen : Seen) (S S2 : M.State) → Shows x s2 S2 →
     HandsOn next S s1 (λ d. second_try m taken x q i c next seen S d t S2))
 
 pub record Finishes (m : Limits) (taken : List (List ℕ)) (x : Lent) (s s2 : State) (q : Sequent) (i c t : ℕ) (r : Answer) (y : Lent) :

@@ -1,5 +1,5 @@
 -- What one rule of left, one rule of search and one turn of left come to in the code. Assumes nothing.
-use Rattle.std.specs.Prelude.{ℕ, ◌<◌, ◌≡◌, List}
+use Rattle.std.specs.Prelude.{ℕ, ◌<◌, ◌≡◌, List, Result, Ok, Err}
 use Rattle.theory.specs.Form.{look}
 use Rattle.theory.specs.Meter as M
 use Rattle.theory.specs.Meter.{limited}
@@ -7,10 +7,11 @@ use Rattle.theory.specs.Search.{halves}
 use Rattle.meter.specs.declared.State.{State}
 use Rattle.meter.specs.declared.Sequent.{Sequent}
 use Rattle.meter.specs.declared.Limits.{Limits}
-use Rattle.meter.specs.declared.Answer.{Answer}
+use Rattle.meter.specs.declared.Found.{Found}
+use Rattle.meter.specs.declared.Missed.{Missed}
 use Rattle.meter.specs.declared.Next.{Next}
 use Rattle.meter.specs.declared.Next.TheVariants.{Go, End, Split, Try}
-use Rattle.meter.specs.Moves.{limits_of}
+use Rattle.meter.specs.Moves.{Answer, limits_of}
 use Rattle.context.specs.Area.{formula_at, top_place}
 use Rattle.search_laws.specs.Reading.{Lent, kind_at, seq_of}
 use Rattle.search_laws.specs.Keeping.{Rep}
@@ -38,12 +39,14 @@ pub record Tries (m : Limits) (taken : List (List ℕ)) (x : Lent) (s : State) (
   pub carries : (r : Answer) (z : Lent) → Gives (tries m taken (seq_of x.records q)) m x s q r z → Goes M.by_search m taken x s q r z
 
 -- what one rule of judgement j comes to, its entry counted
-pub data Turns (m : Limits) (taken : List (List ℕ)) (x : Lent) (s : State) (q : Sequent) : M.Judgement → Next → Lent → Type 0 where
+pub data Turns (m : Limits) (taken : List (List ℕ)) (x : Lent) (s : State) (q : Sequent) : M.Judgement → Result Next Missed → Lent →
+    Type 0 where
   turns_on : {j : M.Judgement} {y : Lent} {s1 : State} {q1 : Sequent} → GoesLeft j m taken x s q y s1 q1 → Turns m taken x s q j
-      (Go s1 q1) y
-  turns_end : {j : M.Judgement} {y : Lent} {a : Answer} → Goes j m taken x s q a y → Turns m taken x s q j (End a) y
-  turns_split : Splits x q → Turns m taken x s q M.by_left (Split s q) x
-  turns_try : Tries m taken x s q → Turns m taken x s q M.by_search (Try s q) x
+      (Ok (Go s1 q1)) y
+  turns_end : {j : M.Judgement} {y : Lent} {f : Found} → Goes j m taken x s q (Ok f) y → Turns m taken x s q j (Ok (End f)) y
+  turns_missed : {j : M.Judgement} {y : Lent} {e : Missed} → Goes j m taken x s q (Err e) y → Turns m taken x s q j (Err e) y
+  turns_split : Splits x q → Turns m taken x s q M.by_left (Ok (Split s q)) x
+  turns_try : Tries m taken x s q → Turns m taken x s q M.by_search (Ok (Try s q)) x
 
 -- left comes to the two premises of a disjunction, or to the tries of search, at state s1
 pub record Splitting (m : Limits) (taken : List (List ℕ)) (x : Lent) (s : State) (q : Sequent) (s1 : State) : Type 0 where
@@ -59,8 +62,9 @@ pub record Trying (m : Limits) (taken : List (List ℕ)) (x : Lent) (s : State) 
   pub carries : (r : Answer) (z : Lent) → Gives (tries m taken (seq_of x.records q)) m x s1 q r z → Meets M.by_left m taken x s q r z
 
 -- what one turn of left comes to
-pub data Turned (m : Limits) (taken : List (List ℕ)) (x : Lent) (s : State) (q : Sequent) : Next → Lent → Type 0 where
-  turned_on : {y : Lent} {s1 : State} {q1 : Sequent} → GoesOn m taken x s q y s1 q1 → Turned m taken x s q (Go s1 q1) y
-  turned_end : {y : Lent} {a : Answer} → Meets M.by_left m taken x s q a y → Turned m taken x s q (End a) y
-  turned_split : {s1 : State} → Splitting m taken x s q s1 → Turned m taken x s q (Split s1 q) x
-  turned_try : {s1 : State} → Trying m taken x s q s1 → Turned m taken x s q (Try s1 q) x
+pub data Turned (m : Limits) (taken : List (List ℕ)) (x : Lent) (s : State) (q : Sequent) : Result Next Missed → Lent → Type 0 where
+  turned_on : {y : Lent} {s1 : State} {q1 : Sequent} → GoesOn m taken x s q y s1 q1 → Turned m taken x s q (Ok (Go s1 q1)) y
+  turned_end : {y : Lent} {f : Found} → Meets M.by_left m taken x s q (Ok f) y → Turned m taken x s q (Ok (End f)) y
+  turned_missed : {y : Lent} {e : Missed} → Meets M.by_left m taken x s q (Err e) y → Turned m taken x s q (Err e) y
+  turned_split : {s1 : State} → Splitting m taken x s q s1 → Turned m taken x s q (Ok (Split s1 q)) x
+  turned_try : {s1 : State} → Trying m taken x s q s1 → Turned m taken x s q (Ok (Try s1 q)) x
