@@ -51,29 +51,29 @@ goal_in bs =
     ]
 
 -- the file that the sections make of the bytes, by their counts and the goal
-abbrev pub file_in : ℕ → ℕ → ℕ → List ℕ → File
-file_in formulas assumptions goal bs = record {
-  words = numbers_from 4 formulas (drop 2 bs);
-  indices = indices_from assumptions (drop (4 + 4 * formulas) bs);
-  text = text_from assumptions (drop (4 + 4 * formulas) bs);
-  goals = goal ∷ [];
+abbrev pub file_in : Sections → List ℕ → File
+file_in x bs = record {
+  words = numbers_from 4 x.formulas (drop 2 bs);
+  indices = indices_from x.assumptions (drop (4 + 4 * x.formulas) bs);
+  text = text_from x.assumptions (drop (4 + 4 * x.formulas) bs);
+  goals = x.goal ∷ [];
 }
 
 unfoldable pub held_by : Option Sections → List ℕ → maybe.Option File
 held_by None bs = maybe.none
-held_by (Some x) bs = maybe.some (file_in x.formulas x.assumptions x.goal bs)
+held_by (Some x) bs = maybe.some (file_in x bs)
 
 -- what the tests saw of sections that are held: their counts, and that they are whole
-pub record Seen (formulas assumptions : ℕ) (bs : List ℕ) : Type 0 where
+pub record Seen (x : Sections) (bs : List ℕ) : Type 0 where
   pub small : length bs ≤ 32768
-  pub few_formulas : formulas ≤ 4096
-  pub inside : 4 + 4 * formulas ≤ length bs
-  pub few_assumptions : assumptions ≤ 64
-  pub whole : Whole (entries_end (4 + 4 * formulas) assumptions (drop (4 + 4 * formulas) bs))
+  pub few_formulas : x.formulas ≤ 4096
+  pub inside : 4 + 4 * x.formulas ≤ length bs
+  pub few_assumptions : x.assumptions ≤ 64
+  pub whole : Whole (entries_end (4 + 4 * x.formulas) x.assumptions (drop (4 + 4 * x.formulas) bs))
 
 abbrev pub Fits : Option Sections → List ℕ → Type 0
 Fits None bs = Unit {0}
-Fits (Some x) bs = Seen x.formulas x.assumptions bs
+Fits (Some x) bs = Seen x bs
 
 -- a list laid over the front of a lent one
 unfoldable pub laid_over : List ℕ → List ℕ → List ℕ
