@@ -2,5 +2,4 @@ pub mod Sums
 pub mod KindLaws
 pub mod PutLaws
 pub mod NodeLaws
-pub mod NameCount
 pub mod FieldLaws

@@ -8,6 +8,7 @@ ghost use Rattle.proof_term.specs.Kinds.{piece_of, field_as, Settles};
 ghost use Rattle.proof_term.specs.Put.{put_node};
 
 use Field::{Child, Formula, Name, Unused};
+use identifier_generator::{GENERATED, LAST_INDEX, Names};
 
 // A node is so many numbers: its kind, then its fields.
 pub const WIDTH: usize = 6;
@@ -162,19 +163,11 @@ pub fn clear(terms: &mut [u16], from: usize)
 }
 
 // How many names a text holds.
+#[tactic(auto, using(theory::proofs::Entries::names_few))]
 pub fn count_names(text: &[u8]) -> usize
     ensures { result ≡ length (names_in text.now) }
 {
-    let mut rest = text;
-    let mut n = 0;
-    loop {
-        let size = identifier_generator::entry_size(rest);
-        if size == 0 {
-            return n;
-        }
-        rest = &rest[size..];
-        n += 1;
-    }
+    Names(text).count()
 }
 
 // Whether x is a name's number: that of one of the text's `names` names, or of a generated one that none of them is spelled like.
@@ -183,11 +176,11 @@ fn lawful_name(x: usize, names: usize, text: &[u8]) -> bool
     requires { names ≡ length (names_in text.now) }
     ensures { result ≡ lawful_name (names_in text.now) x }
 {
-    if x < identifier_generator::GENERATED {
+    if x < GENERATED {
         return x < names;
     }
-    let g = x - identifier_generator::GENERATED;
-    g <= identifier_generator::LAST_INDEX && !identifier_generator::spelled_like(text, g)
+    let g = x - GENERATED;
+    g <= LAST_INDEX && !identifier_generator::spelled_like(text, g)
 }
 
 // Whether number x may stand in such a field of node i, over `count` formulas.
