@@ -1,5 +1,6 @@
 -- Records of the work area, and the area after the code's moves. Assumes nothing.
-use Rattle.std.specs.Prelude.{ℕ, zero, suc, ◌+◌, ◌-◌, ◌*◌, ◌%◌, List, get_or, set}
+use Rattle.std.specs.Prelude.{ℕ, ◌+◌, ◌-◌, ◌*◌, ◌%◌, List, get_or}
+use Rattle.std.specs.List.{copy_within}
 use Rattle.context.specs.declared.Record.{Record}
 use Rattle.meter.specs.declared.Sequent.{Sequent}
 use Rattle.context.specs.Moves.{stretch}
@@ -26,13 +27,11 @@ term_at w i = (get_or w i zeroed).term
 
 -- n records from i on, copied a level up
 unfoldable pub copies : ℕ → ℕ → List Rec → List Rec
-copies zero i w = w
-copies (suc n) i w = copies n (i + 1) (set w (i + stretch) (get_or w i zeroed))
+copies n i w = copy_within w i (i + n) (i + stretch)
 
 -- the n records after place i, each one place down
 unfoldable pub shifts : ℕ → ℕ → List Rec → List Rec
-shifts zero i w = w
-shifts (suc n) i w = shifts n (i + 1) (set w i (get_or w (i + 1) zeroed))
+shifts n i w = copy_within w (i + 1) (i + 1 + n) i
 
 -- the records in use, copied a level up
 unfoldable pub raised : List Rec → Sequent → List Rec

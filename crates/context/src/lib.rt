@@ -3,7 +3,7 @@
 // last record lowest; and the small moves on sequents. Every element of the work area is read and written here alone.
 // What is `pub` here is for the search's own crates: a `requires` is what their code shows before it calls.
 ghost use Rattle.std.specs.Prelude.{◌≡◌, ◌+◌, ◌-◌, ◌*◌, ◌%◌, ◌≤◌, ◌<◌, length, get_or, set, replicate};
-ghost use Rattle.context.specs.Area.{zeroed, rec, record_of, formula_at, term_at, copies, raised};
+ghost use Rattle.context.specs.Area.{zeroed, rec, record_of, formula_at, term_at, raised};
 ghost use Rattle.context.specs.Area.{push_place, append_place, removed, top_place};
 ghost use Rattle.context.specs.Moves.{stretch, upped, pushed, popped, appended, without};
 
@@ -66,16 +66,6 @@ pub fn clear(work: &mut [Record])
     });
 }
 
-// n records from i on, copied a level up.
-fn copy_run(work: &mut [Record], i: usize, n: usize)
-    requires inside { i + stretch + n ≤ length work.old }
-    requires few { n ≤ stretch }
-    requires small { length work.old ≤ 65536 }
-    ensures { work.new ≡ copies n i work.old }
-{
-    work.copy_within(i..i + n, i + STRETCH);
-}
-
 // The records in use, copied a level up.
 pub fn copy_up(work: &mut [Record], sequent: Sequent)
     requires { (length work.old ≤ 65536) × ((sequent.level + 2) * stretch ≤ length work.old) ×
@@ -83,8 +73,9 @@ pub fn copy_up(work: &mut [Record], sequent: Sequent)
     ensures { work.new ≡ raised work.old sequent }
 {
     let first = sequent.level * STRETCH;
-    copy_run(work, first, sequent.unordered);
-    copy_run(work, first + STRETCH - sequent.ordered, sequent.ordered);
+    let end = first + STRETCH;
+    work.copy_within(first..first + sequent.unordered, end);
+    work.copy_within(end - sequent.ordered..end, end + STRETCH - sequent.ordered);
 }
 
 // The place of the last ordered record.

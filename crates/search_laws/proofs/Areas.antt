@@ -84,7 +84,7 @@ module _ {m : Limits} {nf nt l : ℕ} {w0 w : List Rec} {q : Sequent} {us : List
         q1 ≡ upped q g → Area m nf nt l w0 w1 q1 us os
     area_up {w1} {q1} g h up lv ew eq =
         let r : Same zeroed (l * stretch) w w1 = subst (Same zeroed (l * stretch) w) (sym ew)
-        (same_less (omega arith) (same_raised x.seats)) in
+        (same_less (omega arith) (same_raised x.seats up x.room)) in
         record {
           same = same_trans x.same r;
           room = omega (arith, x.room, r.long);

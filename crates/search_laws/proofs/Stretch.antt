@@ -28,41 +28,52 @@ inside_moved {nf} {nt} i j e y = record {
 }
 
 module _ {m : Limits} {nf nt : ℕ} {w : List Rec} {q : Sequent} {us os : List Entry} (x : Seats m nf nt w q us os) where
-  -- the levels up to this one are left alone
-  pub same_raised : Same zeroed ((q.level + 1) * stretch) w (raised w q)
-  unfolding raised
-  same_raised =
-      let w1 : List Rec = copies q.unordered (q.level * stretch) w in
-      let j : ℕ = q.level * stretch + stretch - q.ordered in
-      record {
-        long = copies_length q.ordered j w1 ∙ copies_length q.unordered (q.level * stretch) w;
-        at = λ i h. copies_below q.ordered j i w1 (omega (arith, x.fits))
-            ∙ copies_below q.unordered (q.level * stretch) i w (omega arith);
-      }
-
   module _ (lv : q.level < m.levels) (room : (m.levels + 1) * stretch ≤ length w) where
+    -- the unordered records are copied, then the ordered ones
+    once : List Rec
+    once = copies q.unordered (q.level * stretch) w
+
+    last : ℕ
+    last = q.level * stretch + stretch - q.ordered
+
+    once_room : (q.unordered ≤ stretch) × (q.level * stretch + stretch + q.unordered ≤ length w)
+    once_room = (omega (arith, x.fits), omega (arith, x.fits))
+
+    once_length : length once ≡ length w
+    unfolding once
+    once_length = copies_length q.unordered (q.level * stretch) w once_room.0 once_room.1
+
+    last_room : (q.ordered ≤ stretch) × (last + stretch + q.ordered ≤ length once)
+    unfolding last
+    last_room = (omega (arith, x.fits), omega (arith, x.fits, once_length))
+
+    -- the levels up to this one are left alone
+    pub same_raised : Same zeroed ((q.level + 1) * stretch) w (raised w q)
+    unfolding raised once last
+    same_raised = record {
+      long = copies_length q.ordered last once last_room.0 last_room.1 ∙ once_length;
+      at = λ i h. copies_below q.ordered last once last_room.0 last_room.1 i (omega (arith, x.fits))
+          ∙ copies_below q.unordered (q.level * stretch) w once_room.0 once_room.1 i (omega arith);
+    }
+
     raised_front : (i : ℕ) → i < q.unordered →
         get_or (raised w q) ((q.level + 1) * stretch + i) zeroed ≡ get_or w (q.level * stretch + i) zeroed
-    unfolding raised
+    unfolding raised once last
     raised_front i h =
-        let w1 : List Rec = copies q.unordered (q.level * stretch) w in
-        copies_below q.ordered (q.level * stretch + stretch - q.ordered) ((q.level + 1) * stretch + i) w1 (omega (arith, x.fits))
-        ∙ ap (λ (z : ℕ). get_or w1 z zeroed) (let p : (q.level + 1) * stretch + i ≡ q.level * stretch + stretch + i = omega arith in p)
-        ∙ copies_at q.unordered (q.level * stretch) i w h (omega (arith, x.fits)) (omega (arith, x.fits))
+        copies_below q.ordered last once last_room.0 last_room.1 ((q.level + 1) * stretch + i) (omega (arith, x.fits))
+        ∙ ap (λ (z : ℕ). get_or once z zeroed) (let p : (q.level + 1) * stretch + i ≡ q.level * stretch + stretch + i = omega arith in p)
+        ∙ copies_at q.unordered (q.level * stretch) w once_room.0 once_room.1 i h
 
     raised_back : (i : ℕ) → i < q.ordered →
         get_or (raised w q) ((q.level + 1) * stretch + stretch - 1 - i) zeroed ≡ get_or w (q.level * stretch + stretch - 1 - i) zeroed
-    unfolding raised
+    unfolding raised once last
     raised_back i h =
-        let w1 : List Rec = copies q.unordered (q.level * stretch) w in
-        let j : ℕ = q.level * stretch + stretch - q.ordered in
         let k : ℕ = q.ordered - 1 - i in
-        ap (λ (z : ℕ). get_or (copies q.ordered j w1) z zeroed)
-        (let p : (q.level + 1) * stretch + stretch - 1 - i ≡ j + stretch + k = omega (arith, x.fits) in p)
-        ∙ copies_at q.ordered j k w1 (omega arith) (omega (arith, x.fits))
-        (omega (arith, x.fits, copies_length q.unordered (q.level * stretch) w))
-        ∙ copies_below q.unordered (q.level * stretch) (j + k) w (omega (arith, x.fits))
-        ∙ ap (λ (z : ℕ). get_or w z zeroed) (let p : j + k ≡ q.level * stretch + stretch - 1 - i = omega (arith, x.fits) in p)
+        ap (λ (z : ℕ). get_or (copies q.ordered last once) z zeroed)
+        (let p : (q.level + 1) * stretch + stretch - 1 - i ≡ last + stretch + k = omega (arith, x.fits) in p)
+        ∙ copies_at q.ordered last once last_room.0 last_room.1 k (omega arith)
+        ∙ copies_below q.unordered (q.level * stretch) w once_room.0 once_room.1 (last + k) (omega (arith, x.fits))
+        ∙ ap (λ (z : ℕ). get_or w z zeroed) (let p : last + k ≡ q.level * stretch + stretch - 1 - i = omega (arith, x.fits) in p)
 
     up_seats : (g : ℕ) → g < nf → Seats m nf nt (raised w q) (upped q g) us os
     unfolding unordered_in ordered_in
@@ -113,23 +124,27 @@ module _ {m : Limits} {nf nt : ℕ} {w : List Rec} {q : Sequent} {us os : List E
       gone : List Rec
       gone = shifts k (q.level * stretch + i) w
 
+      gone_room : q.level * stretch + i + k < length w
+      gone_room = omega (arith, x.fits, x.level_in, many)
+
       gone_front : (j : ℕ) → j < i → get_or gone (q.level * stretch + j) zeroed ≡ get_or w (q.level * stretch + j) zeroed
       unfolding gone
-      gone_front j h = shifts_below k (q.level * stretch + i) (q.level * stretch + j) w (omega arith)
+      gone_front j h = shifts_below k (q.level * stretch + i) w gone_room (q.level * stretch + j) (omega arith)
 
       gone_next : (j : ℕ) → i ≤ j → j < i + k → get_or gone (q.level * stretch + j) zeroed ≡ get_or w (q.level * stretch + suc j) zeroed
       unfolding gone
       gone_next j h l =
           ap (λ (z : ℕ). get_or gone z zeroed)
           (let p : q.level * stretch + j ≡ q.level * stretch + i + (j - i) = omega arith in p)
-          ∙ shifts_at k (q.level * stretch + i) (j - i) w (omega arith) (omega (arith, x.fits, x.level_in, many))
+          ∙ shifts_at k (q.level * stretch + i) w gone_room (j - i) (omega arith)
           ∙ ap (λ (z : ℕ). get_or w z zeroed)
           (let p : q.level * stretch + i + 1 + (j - i) ≡ q.level * stretch + suc j = omega arith in p)
 
       gone_back : (j : ℕ) → j < q.ordered → get_or gone (q.level * stretch + stretch - 1 - j) zeroed ≡
           get_or w (q.level * stretch + stretch - 1 - j) zeroed
       unfolding gone
-      gone_back j h = shifts_above k (q.level * stretch + i) (q.level * stretch + stretch - 1 - j) w (omega (arith, x.fits, many))
+      gone_back j h = shifts_above k (q.level * stretch + i) w gone_room (q.level * stretch + stretch - 1 - j)
+          (omega (arith, x.fits, many))
 
       gone_unordered : unordered_in gone q.level (i + k) ≡ before ++ after
       unfolding unordered_in from at
@@ -178,8 +193,11 @@ module _ {m : Limits} {nf nt : ℕ} {w : List Rec} {q : Sequent} {us os : List E
           (sym (eq ∙ ap (λ (c : ℕ). record { level = q.level; unordered = c; ordered = q.ordered; goal = q.goal }) n)) out_seats)
 
       pub same_out : Same zeroed (q.level * stretch) w (removed w q (length before))
-      unfolding removed
-      same_out = record {
-        long = shifts_length (q.unordered - 1 - length before) (q.level * stretch + length before) w;
-        at = λ j h. shifts_below (q.unordered - 1 - length before) (q.level * stretch + length before) j w (omega arith);
-      }
+      unfolding removed i k
+      same_out =
+          let n : ℕ = q.unordered - 1 - length before in
+          let r : q.level * stretch + length before + n < length w = omega (arith, gone_room, many) in
+          record {
+            long = shifts_length n (q.level * stretch + length before) w r;
+            at = λ j h. shifts_below n (q.level * stretch + length before) w r j (omega arith);
+          }
