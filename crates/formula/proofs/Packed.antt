@@ -1,5 +1,5 @@
 -- The word that shifts and ors make of three fields is theory's `pack` of them, each at its width. Assumes nothing.
-use Prim.Native.Nat.{ℕ, ◌+◌, ◌*◌, ◌%◌, ◌^◌, ◌<◌}
+use Prim.Native.Nat.{ℕ, ◌+◌, ◌*◌, ◌%◌, ◌^◌}
 use mathlib.Core.Path.{◌≡◌, ap, ◌∙◌}
 use native.Mathlib.Omega.{arith}
 use lib.Dec.{lit≤}
@@ -17,7 +17,3 @@ pub packed : (k l r : ℕ) →
 packed k l r =
     put_masked 32 18 14 (bit_or (bit_and k 15) (bit_and l 16383 * 2 ^ 4 % 2 ^ 32)) r (omega (arith, low_fields k l)) (lit≤ tt)
     ∙ ap (λ (n : ℕ). n + 262144 * (r % 16384)) (low_fields k l)
-
--- fields within their widths are packed as they are
-pub packed_whole : (k l r : ℕ) → k < 16 → l < 16384 → r < 16384 → pack (k % 16) (l % 16384) (r % 16384) ≡ pack k l r
-packed_whole k l r a b c = omega arith

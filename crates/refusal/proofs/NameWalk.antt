@@ -8,6 +8,7 @@ use native.Mathlib.Numerals.{add-one}
 use native.Mathlib.Omega.{arith}
 use lib.ListN.{length, take, drop, length-drop, drop_of_length-le}
 use lib.Seq.{take-add, take-append_seam}
+use Rattle.std.proofs.Common.{Some, None}
 use Rattle.theory.specs.NameText.{cut_entry, entries_up_to, names_in, lawful_after, bad_name_from, bad_name}
 use Rattle.theory.proofs.Forms.{snoc_length}
 use Rattle.theory.proofs.Entries.{cut_splits}
@@ -62,25 +63,25 @@ module _ {text : List ℕ} {count at place : ℕ} (p : Passed text count at plac
         let one : count - place ≡ suc (count - (place + 1)) = omega (arith, p.within) in
         p.onward ∙ ap (λ (k : ℕ). bad_name_from (names_in (take at text)) k (drop at text)) one
 
-    pub cut_fault : 0 ≡ entry_size (take (length text - at) (drop at text)) → some place ≡ bad_name count text
+    pub cut_fault : None ≡ entry_size (take (length text - at) (drop at text)) → some place ≡ bad_name count text
     cut_fault e =
         sym (onward_next
         ∙ bad_cut (names_in (take at text)) (count - (place + 1)) (drop at text) (none_at text at e)
         ∙ ap some p.placed)
 
-    module _ (s : ℕ) (e : s ≡ entry_size (take (length text - at) (drop at text))) (h : s ≡ 0 → ⊥) where
+    module _ (s : ℕ) (e : Some s ≡ entry_size (take (length text - at) (drop at text))) where
       abbrev next_name : List ℕ
       next_name = bytes_at text at s
 
       cut_is : cut_entry (drop at text) ≡ some (next_name, drop (at + s) text)
-      cut_is = entry_at text at s e h
+      cut_is = entry_at text at s e
 
       -- the front grows by the entry
       front_more : take (at + s) text ≡ take at text ++ (length next_name ∷ next_name)
       front_more =
           take-add at s text
           ∙ ap (λ (t : List ℕ). take at text ++ t)
-          (ap₂ take (size_at text at s e h) (cut_splits (drop at text) (next_name, drop (at + s) text) cut_is)
+          (ap₂ take (size_at text at s e) (cut_splits (drop at text) (next_name, drop (at + s) text) cut_is)
           ∙ ap {B = List ℕ} (λ t. length next_name ∷ t) (take-append_seam next_name (drop (at + s) text)))
 
       names_more : names_in (take (at + s) text) ≡ names_in (take at text) ++ (next_name ∷ [])

@@ -16,6 +16,7 @@ use Rattle.theory.specs.Form.{Shape, is_top, is_bot, is_leaf, is_and, is_or, is_
 use Rattle.theory.specs.Form.{laid_out, other_kind, stands_otherwise, clashes, good_word}
 use Rattle.theory.specs.WellFormed.{LeafKind, atom, for_all, exists}
 use Rattle.theory.proofs.Words.{Plain, plain_other, plain_clashes}
+use Rattle.formula.specs.Kinds.{kind_named}
 use Rattle.formula.specs.Leaves.{leaf_kind}
 use Rattle.formula.proofs.LeafWords.{is_leaf_kind, leaf_kinds, leaf_of_laid}
 use Rattle.refusal.specs.Marks.{mark_of, bits_at, byte_of, shift_of, mark_at, marked, follows, agrees, noted}
@@ -88,8 +89,8 @@ stands_snoc k s (v ∷ before) w =
     ∙ sym (or_assoc (other_kind k s (shape v)) (stands_otherwise k s before) (other_kind k s (shape w)))
 
 -- the kinds that may follow on a leaf's symbol after it: its own
-after_first_lem : {k k₀ : ℕ} → LeafKind k → LeafKind k₀ → not (eqb k k₀) ≡ not (follows (mark_of k₀) k)
-unfolding follows mark_of
+after_first_lem : {k k₀ : ℕ} → LeafKind k → LeafKind k₀ → not (eqb k k₀) ≡ not (follows (mark_of (kind_named k₀)) k)
+unfolding follows kind_named
 after_first_lem atom atom = refl
 after_first_lem atom for_all = refl
 after_first_lem atom exists = refl
@@ -114,16 +115,16 @@ module _ (i w : ℕ) (laid : T (laid_out i w)) (other : leaf_kind (kind_of w) �
   plain_word (is_imp l r) e = tt
 
 -- what may follow on a symbol's mark before and after a leaf that may
-absorbed : (m k k₀ : ℕ) → follows m k₀ ≡ true → (not (follows m k) || not (follows (mark_of k₀) k)) ≡ not (follows (mark_of k₀) k)
+absorbed : (m k k₀ : ℕ) → follows m k₀ ≡ true → (not (follows m k) || not (follows (mark_of (kind_named k₀)) k)) ≡ not (follows (mark_of (kind_named k₀)) k)
 unfolding follows
-absorbed m k k₀ e = go (eqb m 0) (eqb m (mark_of k₀)) refl refl e
+absorbed m k k₀ e = go (eqb m 0) (eqb m (mark_of (kind_named k₀))) refl refl e
   where
-    go : (a b : Bool) → eqb m 0 ≡ a → eqb m (mark_of k₀) ≡ b → (a || b) ≡ true →
-        (not (follows m k) || not (follows (mark_of k₀) k)) ≡ not (follows (mark_of k₀) k)
-    go true b p q e = ap (λ (n : ℕ). not (follows n k) || not (follows (mark_of k₀) k)) (eqb-true m 0 p)
+    go : (a b : Bool) → eqb m 0 ≡ a → eqb m (mark_of (kind_named k₀)) ≡ b → (a || b) ≡ true →
+        (not (follows m k) || not (follows (mark_of (kind_named k₀)) k)) ≡ not (follows (mark_of (kind_named k₀)) k)
+    go true b p q e = ap (λ (n : ℕ). not (follows n k) || not (follows (mark_of (kind_named k₀)) k)) (eqb-true m 0 p)
     go false true p q e =
-        ap (λ (n : ℕ). not (follows n k) || not (follows (mark_of k₀) k)) (eqb-true m (mark_of k₀) q) ∙ or_self
-        (not (follows (mark_of k₀) k))
+        ap (λ (n : ℕ). not (follows n k) || not (follows (mark_of (kind_named k₀)) k)) (eqb-true m (mark_of (kind_named k₀)) q) ∙ or_self
+        (not (follows (mark_of (kind_named k₀)) k))
     go false false p q e = absurd (subst T (sym e) tt)
 
 module _ (ms before : List ℕ) (i w : ℕ) (known : Noted ms before) where
@@ -133,7 +134,7 @@ module _ (ms before : List ℕ) (i w : ℕ) (known : Noted ms before) where
     unfolding shape
     is_leaf_lem = leaf_kinds (kind_of w) leaf (left_of w) (right_of w)
 
-    one_more : (ms' : List ℕ) → length ms' ≡ 4096 → mark_at ms' (left_of w) ≡ mark_of (kind_of w) →
+    one_more : (ms' : List ℕ) → length ms' ≡ 4096 → mark_at ms' (left_of w) ≡ mark_of (kind_named (kind_of w)) →
         ((s : ℕ) → s < 16384 → s ≢ left_of w → mark_at ms' s ≡ mark_at ms s) → Noted ms' (before ++ (w ∷ []))
     unfolding other_kind
     one_more ms' long own kept = record {
@@ -170,12 +171,12 @@ module _ (ms before : List ℕ) (i w : ℕ) (known : Noted ms before) where
         stood : leaf_kind (kind_of w) ≡ true → (b : Bool) → eqb (mark_at ms (left_of w)) 0 ≡ b → Noted (noted ms w) (before ++ (w ∷ []))
         stood e true z =
             let free : mark_at ms (left_of w) ≡ 0 = eqb-true _ 0 z in
-            let small : mark_of (kind_of w) < 4 = mark_small (kind_of w) in
+            let small : mark_of (kind_named (kind_of w)) < 4 = mark_small (kind_named (kind_of w)) in
             subst (λ (m : List ℕ). Noted m (before ++ (w ∷ []))) (first_time ms w e free).1
-            (one_more e (sym (of_leaf ms w e) ∙ agreed) (marked ms (left_of w) (mark_of (kind_of w)))
-            (marked_long ms (left_of w) (mark_of (kind_of w)) known.long)
-            (mark_put ms (left_of w) (mark_of (kind_of w)) known.long (omega arith) free small)
-            (mark_kept ms (left_of w) (mark_of (kind_of w)) known.long (omega arith) free small))
+            (one_more e (sym (of_leaf ms w e) ∙ agreed) (marked ms (left_of w) (mark_of (kind_named (kind_of w))))
+            (marked_long ms (left_of w) (mark_of (kind_named (kind_of w))) known.long)
+            (mark_put ms (left_of w) (mark_of (kind_named (kind_of w))) known.long (omega arith) free small)
+            (mark_kept ms (left_of w) (mark_of (kind_named (kind_of w))) known.long (omega arith) free small))
         stood e false z =
             let r = stood_before ms w e (eqb-false _ 0 z) in
             subst (λ (m : List ℕ). Noted m (before ++ (w ∷ []))) r.1

@@ -21,6 +21,5 @@ fault_number_lem BadFile = omega arith
 
 -- so a number 0 says that nothing is refused
 pub none_refused : (o : Option Refused) → number_in o ≡ 0 → o ≡ none
-unfolding number_in
 none_refused none e = refl
 none_refused (some r) e = absurd (omega (arith, fault_number_lem r.fault))

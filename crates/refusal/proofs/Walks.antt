@@ -1,16 +1,19 @@
 -- The lowest bad place, found by looking from the front: one law a turn and one for each way out. Assumes nothing.
 use Prim.Native.Nat.{ℕ, suc, ◌+◌, ◌≤◌, ◌<◌}
 use mathlib.Core.Path.{◌≡◌, refl, ap, ◌∙◌}
-use mathlib.Core.Bool.{true, false}
+use mathlib.Core.Bool.{Bool, true, false}
 use mathlib.Core.Option.{Option, none, some}
 use mathlib.Core.List.{List, [], ◌∷◌, ◌++◌}
 use native.Mathlib.Omega.{arith}
 use native.Mathlib.Numerals.{add-one}
-use lib.ListN.{length, take, drop, get_or, length-take, drop_of_length-le}
-use lib.Seq.{take-suc, drop-cons, get_or-take, length-take-le}
-use lib.Dec.{ltb}
+use lib.ListN.{length, take, drop, get_or, drop_of_length-le}
+use lib.Seq.{take-suc, drop-cons, length-take-le}
+use lib.Dec.{ltb, leb}
+use borrow.Author.Tests.{ltb-true, ltb-false, le-leb, lt-leb}
+use Rattle.std.specs.List.{position_from}
 use Rattle.theory.specs.Form.{good_word, bad_from, bad_word}
 use Rattle.theory.specs.Refusal.{too_many, outside_from, bad_assumption}
+use Rattle.refusal.specs.Answers.{option_of}
 
 -- the word under the eye decides, or is passed
 bad_here : (before ws : List ℕ) (w : ℕ) → good_word before w ≡ false → bad_from before (w ∷ ws) ≡ some (length before)
@@ -21,51 +24,40 @@ good_here : (before ws : List ℕ) (w : ℕ) → good_word before w ≡ true →
 unfolding bad_from
 good_here before ws w e = rw (e, bad_from)
 
--- the lowest faulty of the first `count` words from index i on, the words before it being good
-abbrev pub bad_onward : List ℕ → ℕ → ℕ → Option ℕ
-bad_onward f count i = bad_from (take i f) (drop i (take count f))
+-- the lowest faulty word from index i on, the words before it being good
+abbrev pub bad_onward : List ℕ → ℕ → Option ℕ
+bad_onward f i = bad_from (take i f) (drop i f)
 
-pub onward_starts : (f : List ℕ) (count : ℕ) → bad_onward f count 0 ≡ bad_word (take count f)
+pub onward_starts : (f : List ℕ) → bad_onward f 0 ≡ bad_word f
 unfolding bad_word
-onward_starts f count = refl
+onward_starts f = refl
 
-module _ (f : List ℕ) (count i : ℕ) where
-  pub onward_ends : length (take count f) ≤ i → bad_onward f count i ≡ none
+module _ (f : List ℕ) (i : ℕ) where
+  pub onward_ends : length f ≤ i → bad_onward f i ≡ none
   unfolding bad_from
-  onward_ends h = rw (drop_of_length-le (take count f) h)
+  onward_ends h = rw (drop_of_length-le f h)
 
-module _ (f : List ℕ) (count i : ℕ) (inside : i < length f) (given : i < count) where
-  here : drop i (take count f) ≡ get_or f i 0 ∷ drop (suc i) (take count f)
-  here =
-      let h : i < length (take count f) = rw (length-take count f) (omega arith) in
-      drop-cons (take count f) i 0 h ∙ ap (λ (w : ℕ). w ∷ drop (suc i) (take count f)) (get_or-take count f i 0 given)
+  module _ (inside : i < length f) where
+    pub onward_bad : good_word (take i f) (get_or f i 0) ≡ false → bad_onward f i ≡ some i
+    onward_bad e =
+        ap (bad_from (take i f)) (drop-cons f i 0 inside) ∙ bad_here (take i f) (drop (suc i) f) (get_or f i 0) e
+        ∙ ap some (length-take-le i f (omega arith))
 
-  pub onward_bad : good_word (take i f) (get_or f i 0) ≡ false → bad_onward f count i ≡ some i
-  onward_bad e =
-      ap (bad_from (take i f)) here ∙ bad_here (take i f) (drop (suc i) (take count f)) (get_or f i 0) e
-      ∙ ap some (length-take-le i f (omega arith))
+    pub onward_good : good_word (take i f) (get_or f i 0) ≡ true → bad_onward f i ≡ bad_onward f (i + 1)
+    onward_good e =
+        ap (bad_from (take i f)) (drop-cons f i 0 inside) ∙ good_here (take i f) (drop (suc i) f) (get_or f i 0) e
+        ∙ rw (add-one, ← take-suc f i 0 inside)
 
-  pub onward_good : good_word (take i f) (get_or f i 0) ≡ true → bad_onward f count i ≡ bad_onward f count (i + 1)
-  onward_good e =
-      ap (bad_from (take i f)) here ∙ good_here (take i f) (drop (suc i) (take count f)) (get_or f i 0) e
-      ∙ rw (add-one, ← take-suc f i 0 inside)
-
--- the assumptions from index i on
-abbrev pub outside_onward : List ℕ → ℕ → ℕ → Option ℕ
-outside_onward hs count i = outside_from count i (drop i hs)
-
-module _ (hs : List ℕ) (count i : ℕ) where
-  pub outside_ends : length hs ≤ i → outside_onward hs count i ≡ none
-  unfolding outside_from
-  outside_ends h = rw (drop_of_length-le hs h)
-
-  pub outside_bad : i < length hs → ltb (get_or hs i 0) count ≡ false → outside_onward hs count i ≡ some i
-  unfolding outside_from
-  outside_bad h e = rw (drop-cons hs i 0 h, e, outside_from)
-
-  pub outside_good : i < length hs → ltb (get_or hs i 0) count ≡ true → outside_onward hs count i ≡ outside_onward hs count (i + 1)
-  unfolding outside_from
-  outside_good h e = rw (add-one, drop-cons hs i 0 h, e, outside_from)
+-- the first assumption from index i on that is not below the count, as the library's search finds it
+pub outside_found : (count i : ℕ) (hs : List ℕ) → option_of (position_from (λ a. leb count a) i hs) ≡ outside_from count i hs
+unfolding outside_from
+outside_found count i [] = refl
+outside_found count i (a ∷ hs) = go (ltb a count) refl (outside_found count (i + 1) hs)
+  where
+    go : (b : Bool) → ltb a count ≡ b → option_of (position_from (λ x. leb count x) (i + 1) hs) ≡ outside_from count (i + 1) hs →
+        option_of (position_from (λ x. leb count x) i (a ∷ hs)) ≡ outside_from count i (a ∷ hs)
+    go true e rest = rw (e, lt-leb count a (ltb-true a count e), outside_from) (rest ∙ ap (λ (k : ℕ). outside_from count k hs) (add-one i))
+    go false e rest = rw (e, le-leb count a (ltb-false a count e), outside_from)
 
 -- the count is tested first
 module _ (hs : List ℕ) (count : ℕ) where

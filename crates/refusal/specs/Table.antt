@@ -1,26 +1,32 @@
 -- What the tests say, as theory's refusals, and their numbers and places in document 01's table. Assumes nothing.
 use Rattle.std.specs.Prelude.{ℕ}
+use Rattle.std.specs.declared.result.Result.{Result}
+use Rattle.std.specs.declared.result.Result.TheVariants.{Ok, Err}
 use Rattle.std.proofs.Math.Option.{Option, none, some}
 use Rattle.theory.specs.Refusal as R
 use Rattle.theory.specs.Refusal.{Refused, fault_number}
-use Rattle.refusal.specs.declared.Tested.{Tested}
-use Rattle.refusal.specs.declared.Tested.TheVariants.{Passed, Sizes, BadFormula, BadAssumption, BadNames, BadGoal, BadTerm}
+use Rattle.refusal.specs.declared.Refusal.{Refusal}
+use Rattle.refusal.specs.declared.Refusal.TheVariants.{Sizes, BadFormula, BadAssumption, BadNames, BadGoal, BadTerm}
 
--- each answer of the tests as a refusal
-unfoldable pub refused_by : Tested → Option Refused
-refused_by Passed = none
-refused_by Sizes = some (record { fault = R.Sizes; place = 0 })
-refused_by (BadFormula i) = some (record { fault = R.BadFormula; place = i })
-refused_by (BadAssumption i) = some (record { fault = R.BadAssumption; place = i })
-refused_by (BadNames i) = some (record { fault = R.BadNames; place = i })
-refused_by (BadGoal i) = some (record { fault = R.BadGoal; place = i })
-refused_by (BadTerm i) = some (record { fault = R.BadTerm; place = i })
+-- each refusal of the tests as theory's
+abbrev pub refusal_of : Refusal → Refused
+refusal_of Sizes = record { fault = R.Sizes; place = 0 }
+refusal_of (BadFormula i) = record { fault = R.BadFormula; place = i }
+refusal_of (BadAssumption i) = record { fault = R.BadAssumption; place = i }
+refusal_of (BadNames i) = record { fault = R.BadNames; place = i }
+refusal_of (BadGoal i) = record { fault = R.BadGoal; place = i }
+refusal_of (BadTerm i) = record { fault = R.BadTerm; place = i }
+
+-- and each answer of a test of several rows
+abbrev pub refused_by : Result (Unit {0}) Refusal → Option Refused
+refused_by (Ok x) = none
+refused_by (Err r) = some (refusal_of r)
 
 -- its number in document 01's table, 0 where nothing is refused, and its place
-unfoldable pub number_in : Option Refused → ℕ
+abbrev pub number_in : Option Refused → ℕ
 number_in none = 0
 number_in (some r) = fault_number r.fault
 
-unfoldable pub place_in : Option Refused → ℕ
+abbrev pub place_in : Option Refused → ℕ
 place_in none = 0
 place_in (some r) = r.place

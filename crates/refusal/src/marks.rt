@@ -1,6 +1,8 @@
 // The kinds under which the leaf symbols of a book have stood: two bits for each of the 16,384 symbols, so that a table is soon cleared.
-ghost use Rattle.std.specs.Prelude.{◌≡◌, ◌<◌, length};
+ghost use Rattle.std.specs.Prelude.{◌≡◌, ◌<◌};
 ghost use Rattle.refusal.specs.Marks.{mark_of, shift_of, mark_at, marked, agrees, noted};
+
+use formula::Kind;
 
 // The bytes of a table.
 pub const BYTES: usize = 4096;
@@ -20,16 +22,14 @@ const FOR_ALL: u8 = 2;
 const EXISTS: u8 = 3;
 
 // The mark of a leaf kind.
-fn mark_of(kind: usize) -> u8
+fn mark_of(kind: Kind) -> u8
     ensures { result ≡ mark_of kind }
 {
-    if kind == formula::ATOM {
-        return ATOM;
+    match kind {
+        Kind::Atom => ATOM,
+        Kind::ForAll => FOR_ALL,
+        _ => EXISTS,
     }
-    if kind == formula::FOR_ALL {
-        return FOR_ALL;
-    }
-    EXISTS
 }
 
 // How many bits from the low end of its byte the mark of a symbol stands.
@@ -40,17 +40,15 @@ fn shift_of(symbol: usize) -> usize
 }
 
 // The mark of a symbol.
-fn mark_at(marks: &[u8], symbol: usize) -> u8
-    requires table { length marks.now ≡ 4096 }
-    requires given { symbol < 16384 }
+fn mark_at(marks: &[u8; BYTES], symbol: usize) -> u8
+    requires { symbol < 16384 }
     ensures { result ≡ mark_at marks.now symbol }
 {
     (marks[symbol % BYTES] >> shift_of(symbol)) & MASK
 }
 
 // A symbol without a mark gets that of a kind.
-fn mark(marks: &mut [u8], symbol: usize, kind: usize)
-    requires table { length marks.old ≡ 4096 }
+fn mark(marks: &mut [u8; BYTES], symbol: usize, kind: Kind)
     requires given { symbol < 16384 }
     requires free { mark_at marks.old symbol ≡ 0 }
     ensures { marks.new ≡ marked marks.old symbol (mark_of kind) }
@@ -59,20 +57,19 @@ fn mark(marks: &mut [u8], symbol: usize, kind: usize)
 }
 
 // Whether a word's leaf symbol has stood under no other kind than the word's, which is noted.
-pub fn agrees(marks: &mut [u8], packed: u32) -> bool
-    requires table { length marks.old ≡ 4096 }
+pub fn agrees(marks: &mut [u8; BYTES], packed: u32) -> bool
     ensures answer { result ≡ agrees marks.old packed }
     ensures table { marks.new ≡ noted marks.old packed }
 {
     let kind = formula::kind_of(packed);
-    if formula::leaf_kind(kind) {
-        let symbol = formula::left_of(packed);
-        let held = mark_at(marks, symbol);
-        if held == NONE {
-            mark(marks, symbol, kind);
-            return true;
-        }
+    if !kind.is_leaf() {
+        return true;
+    }
+    let symbol = formula::left_of(packed);
+    let held = mark_at(marks, symbol);
+    if held != NONE {
         return held == mark_of(kind);
     }
+    mark(marks, symbol, kind);
     true
 }
