@@ -4,6 +4,7 @@ use mathlib.Core.Path.{◌≡◌, sym, ap, ◌∙◌, subst}
 use mathlib.Core.List.{List, []}
 use native.Mathlib.Omega.{arith}
 use lib.ListN.{length, set, length-append}
+use Rattle.std.specs.Prelude.{Ok}
 use Rattle.theory.specs.Term.{app, six_of}
 use Rattle.theory.specs.Search.{fire}
 use Rattle.proof_term.specs.Put.{put_node}
@@ -15,8 +16,8 @@ use Rattle.context.specs.Area.{Rec, rec, formula_at, term_at, removed, push_plac
 use Rattle.search_laws.specs.Tables.{downto}
 use Rattle.search_laws.specs.Reading.{lent, right_at, book, unordered_in, ordered_in}
 use Rattle.search_laws.specs.Keeping.{Laid, Seats, Rep}
-use Rattle.search_laws.specs.Making.{Tested}
 use Rattle.search_laws.specs.Leaves.{fires_by, firing_in, MayFire, Fell}
+use Rattle.search_laws.specs.Making.{Tested}
 use Rattle.theory.proofs.Falling.{firing}
 use Rattle.search_laws.proofs.Charge.{passes}
 use Rattle.search_laws.proofs.Seat.{unordered_length}
@@ -118,27 +119,23 @@ count_few {f = f} {w = w} {q = q} rep e =
     (omega arith, omega arith)
 
 -- the charge that passed leaves room for all
-pub may_fire : {m : Limits} {f t : List ℕ} {w : List Rec} {s : State} {q : Sequent} {c n k l u v : ℕ} → Rep m (lent f t w) s q →
+pub may_fire : {m : Limits} {f t : List ℕ} {w : List Rec} {s : State} {q : Sequent} {c k l u v : ℕ} → Rep m (lent f t w) s q →
     q.ordered ≡ 0 →
-    c ≡ firing_in f w q.level q.unordered q.unordered → Tested m n u v (s.terms + c) k l → n ≡ 0 →
+    c ≡ firing_in f w q.level q.unordered q.unordered → Tested m (Ok tt) s u v (s.terms + c) k l →
     MayFire m (lent f t w) s q (s.terms + c)
-may_fire {s = s} rep none e t z = record {
+may_fire {s = s} rep none e t = record {
   rep = rep;
   none = none;
   last = ap (λ (k : ℕ). s.terms + k) e;
-  few = omega (arith, (passes t z).terms, rep.rooms.most_terms);
+  few = omega (arith, (passes t).terms, rep.rooms.most_terms);
 }
 
-pub may_spend : {m : Limits} {f t : List ℕ} {w : List Rec} {s : State} {q : Sequent} {c n k l u v : ℕ} → Rep m (lent f t w) s q →
-    c ≡ firing_in f w q.level q.unordered q.unordered → Tested m n u v (s.terms + c) k l → n ≡ 0 →
+pub may_spend : {m : Limits} {f t : List ℕ} {w : List Rec} {s : State} {q : Sequent} {c k l u v : ℕ} → Rep m (lent f t w) s q →
+    c ≡ firing_in f w q.level q.unordered q.unordered → Tested m (Ok tt) s u v (s.terms + c) k l →
     (s.formulas + 0 ≤ 16384) × (s.terms + c ≤ 16384)
-may_spend rep e t z =
+may_spend rep e t =
     let a = rep.within.in_formulas in
     let b = rep.rooms.most_formulas in
     let d = rep.rooms.most_terms in
-    let g = (passes t z).terms in
+    let g = (passes t).terms in
     (omega arith, omega arith)
-
--- the leaf was found nowhere
-pub absent_by : {j n place : ℕ} → j ≡ place → n ≤ j → n ≤ place
-absent_by e h = omega arith

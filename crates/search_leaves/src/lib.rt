@@ -13,42 +13,39 @@ ghost use Rattle.theory.specs.Meter.{by_search};
 ghost use Rattle.search_laws.specs.Keeping.{Rep};
 ghost use Rattle.search_laws.specs.Turning.{Turns};
 ghost use Rattle.search_laws.specs.Leaves.{leaf_place, fires_by, firing_in, MayFire, Fell};
+ghost use Rattle.search_leaves.specs.Found.{below};
 
-use context::Record;
-use meter::{Answer, Limits, Next, Sequent, State};
+use context::{Record, STRETCH};
+use formula::Kind;
+use meter::{Found, Limits, Missed, Next, Sequent, State};
+use proof_term::Node;
 
-// The place of the first unordered record that is the leaf with this word; the number of them where there is none.
-fn find_leaf(words: &[u32], work: &[Record], sequent: Sequent, leaf: u32) -> usize
+// The place of the first unordered record that is the leaf with this word; no word of another kind stands anywhere.
+fn find_leaf(words: &[u32], work: &[Record], sequent: Sequent, leaf: u32) -> Option<usize>
     requires { (sequent.level < 256) × (sequent.unordered ≤ stretch) }
-    ensures { result ≡ leaf_place words.now work.now sequent.level sequent.unordered leaf }
+    ensures { result ≡ below sequent.unordered
+        (leaf_place words.now work.now sequent.level sequent.unordered leaf) }
 {
-    let l = sequent.level;
-    let n = sequent.unordered;
-    let mut i = 0;
-    while i < n {
-        let a = context::formula_at(work, l * context::STRETCH + i);
-        if formula::equal_leaves(leaf, formula::word(words, a)) {
-            return i;
-        }
-        i += 1;
+    if !formula::kind_of(leaf).is_leaf() {
+        return None;
     }
-    n
+    let first = sequent.level * STRETCH;
+    (0..sequent.unordered).position(|i| leaf
+        == formula::word(words, context::formula_at(work, first + i)))
 }
 
-// The place of the leaf that lets unordered record i fire, where it is leaf→B and the leaf is present; else the number of them.
-fn fires(words: &[u32], work: &[Record], sequent: Sequent, i: usize) -> usize
+// The place of the leaf that lets unordered record i fire, where it is leaf→B and the leaf is present.
+fn fires(words: &[u32], work: &[Record], sequent: Sequent, i: usize) -> Option<usize>
     requires { (sequent.level < 256) × (sequent.unordered ≤ stretch) × (i ≤ stretch) }
-    ensures { result ≡ fires_by words.now work.now sequent.level sequent.unordered i }
+    ensures { result ≡ below sequent.unordered
+        (fires_by words.now work.now sequent.level sequent.unordered i) }
 {
-    let a = context::formula_at(work, sequent.level * context::STRETCH + i);
-    if formula::kind(words, a) != formula::IMPL {
-        return sequent.unordered;
-    }
-    let leaf = formula::word(words, formula::left(words, a));
-    if formula::leaf_kind(formula::kind_of(leaf)) {
-        return find_leaf(words, work, sequent, leaf);
-    }
-    sequent.unordered
+    let a = context::formula_at(work, sequent.level * STRETCH + i);
+    let Kind::Impl = formula::kind_at(words, a) else {
+        return None;
+    };
+    let leaf = formula::word(words, formula::left_at(words, a));
+    find_leaf(words, work, sequent, leaf)
 }
 
 // How many unordered records fire.
@@ -56,17 +53,9 @@ fn count_fires(words: &[u32], work: &[Record], sequent: Sequent) -> usize
     requires { (sequent.level < 256) × (sequent.unordered ≤ stretch) }
     ensures { result ≡ firing_in words.now work.now sequent.level sequent.unordered sequent.unordered }
 {
-    let all = sequent.unordered;
-    let mut n = 0;
-    let mut i = 0;
-    while i < all {
-        let at = i;
-        i += 1;
-        if fires(words, work, sequent, at) < all {
-            n += 1;
-        }
-    }
-    n
+    (0..sequent.unordered)
+        .filter(|i| fires(words, work, sequent, *i).is_some())
+        .count()
 }
 
 // Unordered record i fires with the leaf at j: its Application is node n; the record is taken out, and what it yields is pushed.
@@ -89,11 +78,11 @@ fn fire_one(
     ensures work { work.new ≡ set (removed work.old sequent i) (push_place (without sequent))
         (rec (right_at words.now (formula_at work.old (sequent.level * stretch + i))) n) }
 {
-    let first = sequent.level * context::STRETCH;
-    let b = formula::right(words, context::formula_at(work, first + i));
+    let first = sequent.level * STRETCH;
+    let b = formula::right_at(words, context::formula_at(work, first + i));
     let x = context::term_at(work, first + i);
     let y = context::term_at(work, first + j);
-    proof_term::put(terms, n, proof_term::APPLICATION, x, y, 0, 0, 0);
+    proof_term::put(terms, n, Node::Application(x, y));
     let q1 = context::remove(work, sequent, i);
     context::push(work, q1, b, n)
 }
@@ -115,29 +104,13 @@ fn fire_all(
 {
     let mut p = sequent;
     let mut n = end;
-    let mut i = sequent.unordered;
-    while 0 < i {
-        i -= 1;
-        let j = fires(words, work, p, i);
-        if j < p.unordered {
+    for i in (0..sequent.unordered).rev() {
+        if let Some(j) = fires(words, work, p, i) {
             n -= 1;
             p = fire_one(words, terms, work, p, i, j, n);
         }
     }
     p
-}
-
-// The place of the goal's leaf among the unordered records; the number of them where the goal is no leaf or does not stand there.
-fn goal_leaf(words: &[u32], work: &[Record], sequent: Sequent) -> usize
-    requires { (sequent.level < 256) × (sequent.unordered ≤ stretch) }
-    ensures { result ≡ leaf_place words.now work.now sequent.level sequent.unordered
-        (get_or words.now sequent.goal 0) }
-{
-    let goal = formula::word(words, sequent.goal);
-    if formula::leaf_kind(formula::kind_of(goal)) {
-        return find_leaf(words, work, sequent, goal);
-    }
-    sequent.unordered
 }
 
 // Rule 2, where the goal's leaf is not present; where nothing fires, the tries.
@@ -148,7 +121,7 @@ fn fire(
     limits: Limits,
     state: State,
     sequent: Sequent,
-) -> Next
+) -> Result<Next, Missed>
     requires represented { Rep limits (lent words.now terms.old work.old) state sequent }
     requires absent { (sequent.ordered ≡ 0) × (sequent.unordered ≤ leaf_place words.now work.old sequent.level
         sequent.unordered (get_or words.now sequent.goal 0)) }
@@ -157,21 +130,19 @@ fn fire(
 {
     let c = count_fires(words, work, sequent);
     if c == 0 {
-        return Next::Try(state, sequent);
+        return Ok(Next::Try(state, sequent));
     }
-    let n = meter::lack(
+    let end = state.terms + c;
+    state.charge(
         limits,
         state.indices,
         state.formulas,
-        state.terms + c,
+        end,
         sequent.unordered,
         sequent.level,
-    );
-    if n != 0 {
-        return Next::End(Answer::Short(n, state));
-    }
-    let q1 = fire_all(words, terms, work, limits, state, sequent, state.terms + c);
-    Next::Go(meter::spend(state, state.indices, 0, c), q1)
+    )?;
+    let q1 = fire_all(words, terms, work, limits, state, sequent, end);
+    Ok(Next::Go(state.spend(state.indices, 0, c), q1))
 }
 
 // Search's rules 1 and 2, its entry counted.
@@ -182,16 +153,16 @@ pub fn settle(
     limits: Limits,
     state: State,
     sequent: Sequent,
-) -> Next
+) -> Result<Next, Missed>
     requires represented { Rep limits (lent words.now terms.old work.old) state sequent }
     requires empty { sequent.ordered ≡ 0 }
     ensures { (taken : List (List ℕ)) → Turns limits taken (lent words.now terms.old work.old)
         state sequent by_search result (lent words.now terms.new work.new) }
 {
-    let j = goal_leaf(words, work, sequent);
-    if j < sequent.unordered {
-        let x = context::term_at(work, sequent.level * context::STRETCH + j);
-        return Next::End(Answer::Found(x, state));
+    let goal = formula::word(words, sequent.goal);
+    if let Some(j) = find_leaf(words, work, sequent, goal) {
+        let node = context::term_at(work, sequent.level * STRETCH + j);
+        return Ok(Next::End(Found { node, state }));
     }
     fire(words, terms, work, limits, state, sequent)
 }

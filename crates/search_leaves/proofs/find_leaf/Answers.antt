@@ -1,20 +1,29 @@
--- What is left of the search for the leaf is the search from i on. Assumes nothing.
-use borrow.Author.Rules.{rules}
-use Rattle.search_leaves.proofs.Walk.{looking_starts, looking_found, looking_on, looking_ends}
+-- The place of a leaf is the first one with its word. Assumes nothing.
+use mathlib.Core.Path.{◌≡◌, refl, ◌∙◌}
+use mathlib.Core.Bool.{true, false}
+use native.Mathlib.Omega.{arith}
+use Rattle.std.proofs.Common.{rules, tests}
+use Rattle.std.proofs.lemmas.Iterator.{YieldsList-from_range}
+use Rattle.std.proofs.lemmas.Iterator.Search.{position_from_yields_List}
+use Rattle.theory.specs.Form.{kind_of}
+use Rattle.formula.specs.Leaves.{leaf_kind}
+use Rattle.formula.proofs.KindLaws.{leaf_named}
+use Rattle.search_laws.proofs.Leaf.{other_place}
+use Rattle.search_leaves.proofs.Walk.{nowhere, stands, found_at}
 use Rattle.search_leaves.proofs.find_leaf.Goals as goal
 
-pub loop-i-init : goal.loop-i-init
-loop-i-init c =
-    looking_starts _ _ _ _ _
-
-pub returns-then-equal_leaves : goal.returns-then-equal_leaves
-returns-then-equal_leaves c =
-    looking_found c.loop-i.invariant (search rules) (cc)
-
-pub loop-i-preserved : goal.loop-i-preserved
-loop-i-preserved c =
-    looking_on c.loop-i.invariant (search rules) (cc)
+pub returns-then-not-is_leaf : goal.returns-then-not-is_leaf
+returns-then-not-is_leaf c =
+    let a = c.args in
+    let none : leaf_kind (kind_of a.leaf) ≡ false = cc (leaf_named (kind_of a.leaf)) in
+    nowhere (other_place a.words.now a.work.now a.sequent.level a.sequent.unordered a.leaf none)
 
 pub returns : goal.returns
 returns c =
-    looking_ends c.loop-i.invariant (search rules)
+    let a = c.args in
+    let q = c.args.sequent in
+    let leaf : leaf_kind (kind_of a.leaf) ≡ true = cc (leaf_named (kind_of a.leaf)) in
+    position_from_yields_List (stands a.words.now a.work.now q.level a.leaf) _ _ c.position.result c.position.ensures.ran
+    (YieldsList-from_range 0 q.unordered q.unordered refl (omega arith))
+    (λ x b q k. search (rules, tests))
+    ∙ found_at a.words.now a.work.now q.level a.leaf leaf q.unordered

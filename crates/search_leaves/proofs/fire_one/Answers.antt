@@ -24,6 +24,6 @@ returns c =
           c.remove-q1.ensures.result
           c.remove-q1.ensures.work
           c.push.ensures.work
-          c.right-b.ensures
+          c.right_at-b.ensures
           c.formula_at.ensures;
     }
