@@ -20,7 +20,7 @@ use Rattle.search_laws.specs.Tables.{upto}
 use Rattle.search_laws.specs.Reading.{kind_at, left_at, right_at, shape_at, book, entry_at, unordered_in}
 use Rattle.search_laws.specs.Keeping.{Laid}
 use Rattle.search_laws.specs.Leaves.{leaf_place, fires_by, firing_in}
-use Rattle.search_laws.proofs.Look.{shape_as, book_at}
+use Rattle.search_laws.proofs.Look.{shape_as, book_at, by_kind}
 use Rattle.search_laws.proofs.Leaf.{leaf_of, term_in, leaf_place_lem, term_in_lem, term_out}
 
 -- what a record yields when its leaf's term is found
@@ -29,14 +29,8 @@ yields b o = elim o [ none ↦ none | some t ↦ some (t, b) ]
 
 -- only an implication fires
 other_kind_lem : (ws : Book) (us : List Entry) (k l r : ℕ) → (k ≡ 5 → ⊥) → fire_shape ws us (shape_of k l r) ≡ none
-unfolding shape_of fire_shape
-other_kind_lem ws us zero l r h = refl
-other_kind_lem ws us (suc zero) l r h = refl
-other_kind_lem ws us (suc (suc zero)) l r h = refl
-other_kind_lem ws us (suc (suc (suc zero))) l r h = refl
-other_kind_lem ws us (suc (suc (suc (suc zero)))) l r h = refl
-other_kind_lem ws us (suc (suc (suc (suc (suc zero))))) l r h = absurd (h refl)
-other_kind_lem ws us (suc (suc (suc (suc (suc (suc k)))))) l r h = refl
+unfolding fire_shape
+other_kind_lem ws us k l r h = by_kind (λ sh. fire_shape ws us sh ≡ none) k l r (λ z. refl) (λ z. refl) (λ z. refl) (λ z. refl) (λ z. absurd (h z)) (λ n. refl)
 
 -- and it fires by the leaf that it goes from
 by_leaf : (ws : Book) (us : List Entry) (b : ℕ) (s : Shape) → fire_leaf ws us b s ≡ yields b (leaf_of ws us s)

@@ -1,6 +1,6 @@
 -- Rule 4 at one position: what the code makes and moves before each of the two premises. Assumes nothing.
 use Rattle.std.specs.Prelude.{Ok}
-use Prim.Native.Nat.{ℕ, zero, suc, ◌+◌, ◌-◌, ◌*◌, ◌<◌, ◌≤◌}
+use Prim.Native.Nat.{ℕ, suc, ◌+◌, ◌-◌, ◌*◌, ◌<◌, ◌≤◌}
 use mathlib.Core.Path.{◌≡◌, refl, sym, ap, ◌∙◌}
 use mathlib.Core.Option.{none}
 use mathlib.Core.List.{List, [], ◌∷◌, ◌++◌}
@@ -36,7 +36,7 @@ use Rattle.search_laws.proofs.Areas.{fields, Area, area_start, area_up, area_out
 use Rattle.search_laws.proofs.Write.{words_none, words_imp}
 use Rattle.search_laws.proofs.Charge.{words_many, passes}
 use Rattle.search_laws.proofs.Making.{made_of}
-use Rattle.search_laws.proofs.Look.{shape_as, look_at, children, fits16}
+use Rattle.search_laws.proofs.Look.{shape_as, look_at, children, fits16, by_kind}
 
 -- the context parts at each position
 pub parted : (x : Lent) (q : Sequent) (i : ℕ) → i < q.unordered →
@@ -113,25 +113,13 @@ module _ {m : Limits} (taken : List (List ℕ)) {x : Lent} {s : State} {q : Sequ
 
   -- a record that is no implication
   other_by : (k l r : ℕ) (ws : Book) → (k ≡ 5 → ⊥) → nest ws (shape_of k l r) ≡ none
-  unfolding nest shape_of
-  other_by zero l r ws a = refl
-  other_by (suc zero) l r ws a = refl
-  other_by (suc (suc zero)) l r ws a = refl
-  other_by (suc (suc (suc zero))) l r ws a = refl
-  other_by (suc (suc (suc (suc zero)))) l r ws a = refl
-  other_by (suc (suc (suc (suc (suc zero))))) l r ws a = absurd (a refl)
-  other_by (suc (suc (suc (suc (suc (suc k)))))) l r ws a = refl
+  unfolding nest
+  other_by k l r ws a = by_kind (λ sh. nest ws sh ≡ none) k l r (λ z. refl) (λ z. refl) (λ z. refl) (λ z. refl) (λ z. absurd (a z)) (λ n. refl)
 
   -- an implication from something else
   flat_by : (l r k l1 r1 : ℕ) → (k ≡ 5 → ⊥) → nest_left l r (shape_of k l1 r1) ≡ none
-  unfolding nest_left shape_of
-  flat_by l r zero l1 r1 a = refl
-  flat_by l r (suc zero) l1 r1 a = refl
-  flat_by l r (suc (suc zero)) l1 r1 a = refl
-  flat_by l r (suc (suc (suc zero))) l1 r1 a = refl
-  flat_by l r (suc (suc (suc (suc zero)))) l1 r1 a = refl
-  flat_by l r (suc (suc (suc (suc (suc zero))))) l1 r1 a = absurd (a refl)
-  flat_by l r (suc (suc (suc (suc (suc (suc k)))))) l1 r1 a = refl
+  unfolding nest_left
+  flat_by l r k l1 r1 a = by_kind (λ sh. nest_left l r sh ≡ none) k l1 r1 (λ z. refl) (λ z. refl) (λ z. refl) (λ z. refl) (λ z. absurd (a z)) (λ n. refl)
 
   look_here : {S : M.State} → Shows x s S → {sh : Shape} → shape_at x.words (formula_of x q i) ≡ sh → look S.words
       (record_at x q i).formula ≡ sh

@@ -1,6 +1,6 @@
 -- The tries of search: the two halves of an Or goal, and then the positions. Assumes nothing.
 use Rattle.std.specs.Prelude.{Ok, Err}
-use Prim.Native.Nat.{ℕ, zero, suc, ◌+◌, ◌<◌}
+use Prim.Native.Nat.{ℕ, ◌+◌, ◌<◌}
 use mathlib.Core.Path.{◌≡◌, refl, sym, ap, ap₂, ◌∙◌}
 use mathlib.Core.List.{List, []}
 use native.Mathlib.Omega.{arith}
@@ -29,7 +29,7 @@ use Rattle.search_laws.specs.Turning.{tries}
 use Rattle.search_laws.proofs.Branch.{back_found, back_failed, gives_as, gives_close, gives_try_short, gives_try_found}
 use Rattle.search_laws.proofs.Branch.{gives_try_failed}
 use Rattle.search_laws.proofs.Combine.{comes_as}
-use Rattle.search_laws.proofs.Look.{shape_as, look_at, children, fits16}
+use Rattle.search_laws.proofs.Look.{shape_as, look_at, children, fits16, by_kind}
 use Rattle.search_laws.proofs.Right.{up_short}
 
 -- a second try gives back as much as the first, for a failed try has made nothing
@@ -51,14 +51,9 @@ module _ {m : Limits} (taken : List (List ℕ)) {x : Lent} {s : State} {q : Sequ
   -- a goal that is no Or
   else_by : (k l r : ℕ) → (k ≡ 4 → ⊥) → (Q : M.Sequent) (S : M.State) (d : ℕ) →
       halves (limited (limits_of m)) taken (asks m taken d) Q S (shape_of k l r) ≡ ranging m taken Q (so_far (bare S.words Q)) d S
-  unfolding halves shape_of ranging
-  else_by zero l r a Q S d = refl
-  else_by (suc zero) l r a Q S d = refl
-  else_by (suc (suc zero)) l r a Q S d = refl
-  else_by (suc (suc (suc zero))) l r a Q S d = refl
-  else_by (suc (suc (suc (suc zero)))) l r a Q S d = absurd (a refl)
-  else_by (suc (suc (suc (suc (suc zero))))) l r a Q S d = refl
-  else_by (suc (suc (suc (suc (suc (suc k)))))) l r a Q S d = refl
+  unfolding halves ranging
+  else_by k l r a Q S d = by_kind (λ sh. halves (limited (limits_of m)) taken (asks m taken d) Q S sh ≡
+      ranging m taken Q (so_far (bare S.words Q)) d S) k l r (λ z. refl) (λ z. refl) (λ z. refl) (λ z. absurd (a z)) (λ z. refl) (λ n. refl)
 
   pub tries_else : {r : Answer} {y : Lent} → (kind_at x.words q.goal ≡ 4 → ⊥) → Ranges m taken x s q r y →
       Gives (tries m taken (seq_of x.records q)) m x s q r y

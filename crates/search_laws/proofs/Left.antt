@@ -1,6 +1,6 @@
 -- The ways through left that make one turn: what is dropped, what ends, what goes to the unordered context, and And. Assumes nothing.
 use Rattle.std.specs.Prelude.{Ok, Err}
-use Prim.Native.Nat.{ℕ, zero, suc, ◌+◌, ◌-◌, ◌*◌, ◌<◌, ◌≤◌}
+use Prim.Native.Nat.{ℕ, ◌+◌, ◌-◌, ◌*◌, ◌<◌, ◌≤◌}
 use mathlib.Core.Path.{◌≡◌, refl, ap, ◌∙◌, subst}
 use mathlib.Core.List.{List, [], ◌∷◌, ◌++◌}
 use native.Mathlib.Omega.{arith}
@@ -32,7 +32,7 @@ use Rattle.search_laws.proofs.Charge.{passes}
 use Rattle.search_laws.proofs.Making.{made_of}
 use Rattle.search_laws.proofs.Moving.{moved_of, gives_moved}
 use Rattle.search_laws.proofs.Branch.{goes_by, gives_asked, gives_close, gives_short, gives_on}
-use Rattle.search_laws.proofs.Look.{shape_as, look_at, children, fits16}
+use Rattle.search_laws.proofs.Look.{shape_as, look_at, children, fits16, by_kind}
 
 -- left with nothing left asks search
 pub left_empty_lem : {m : Limits} {taken : List (List ℕ)} {x y : Lent} {s : State} {q : Sequent} {r : Answer} → q.ordered ≡ 0 →
@@ -105,14 +105,10 @@ module _ {m : Limits} (taken : List (List ℕ)) {x : Lent} {s : State} {q : Sequ
   leaf_by : (k l r : ℕ) → (k ≡ 0 → ⊥) → (k ≡ 1 → ⊥) → (k ≡ 3 → ⊥) → (k ≡ 4 → ⊥) → (k ≡ 5 → ⊥) → (Q : M.Sequent) (S : M.State) (e : M.Entry)
       (os : List M.Entry) (d : ℕ) → on_left (limited (limits_of m)) taken (asks m taken d) Q S e os (shape_of k l r) ≡
       asks m taken d M.by_left (go_on Q (Q.unordered ++ (e ∷ [])) os) S
-  unfolding on_left shape_of
-  leaf_by zero l r a b c f g Q S e os d = absurd (a refl)
-  leaf_by (suc zero) l r a b c f g Q S e os d = absurd (b refl)
-  leaf_by (suc (suc zero)) l r a b c f g Q S e os d = refl
-  leaf_by (suc (suc (suc zero))) l r a b c f g Q S e os d = absurd (c refl)
-  leaf_by (suc (suc (suc (suc zero)))) l r a b c f g Q S e os d = absurd (f refl)
-  leaf_by (suc (suc (suc (suc (suc zero))))) l r a b c f g Q S e os d = absurd (g refl)
-  leaf_by (suc (suc (suc (suc (suc (suc k)))))) l r a b c f g Q S e os d = refl
+  unfolding on_left
+  leaf_by k l r a b c f g Q S e os d = by_kind (λ sh. on_left (limited (limits_of m)) taken (asks m taken d) Q S e os sh ≡
+      asks m taken d M.by_left (go_on Q (Q.unordered ++ (e ∷ [])) os) S) k l r
+      (λ z. absurd (a z)) (λ z. absurd (b z)) (λ z. absurd (c z)) (λ z. absurd (f z)) (λ z. absurd (g z)) (λ n. refl)
 
   pub left_leaf_lem : {x1 y : Lent} {q1 : Sequent} {r : Answer} → (kind_at x.words (top_formula x q) ≡ 0 → ⊥) →
       (kind_at x.words (top_formula x q) ≡ 1 → ⊥) → (kind_at x.words (top_formula x q) ≡ 3 → ⊥) →

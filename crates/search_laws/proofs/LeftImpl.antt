@@ -1,6 +1,6 @@
 -- The ways of left through an implication A→C that need no new formula: by the shape of A. Assumes nothing.
 use Rattle.std.specs.Prelude.{Ok, Err}
-use Prim.Native.Nat.{ℕ, zero, suc, ◌+◌, ◌-◌, ◌<◌, ◌≤◌}
+use Prim.Native.Nat.{ℕ, ◌+◌, ◌-◌, ◌<◌, ◌≤◌}
 use mathlib.Core.Path.{◌≡◌, refl, ap, ◌∙◌}
 use mathlib.Core.List.{List, [], ◌∷◌, ◌++◌}
 use native.Mathlib.Omega.{arith}
@@ -30,7 +30,7 @@ use Rattle.search_laws.proofs.Charge.{passes}
 use Rattle.search_laws.proofs.Making.{made_of}
 use Rattle.search_laws.proofs.Moving.{gives_moved}
 use Rattle.search_laws.proofs.Branch.{goes_by, gives_short, gives_on}
-use Rattle.search_laws.proofs.Look.{shape_as, look_at, children, fits16}
+use Rattle.search_laws.proofs.Look.{shape_as, look_at, children, fits16, by_kind}
 use Rattle.search_laws.proofs.Left.{top_inside, left_by_lem, area_top, drop_moved}
 
 -- left goes on with these records last
@@ -82,14 +82,10 @@ module _ {m : Limits} (taken : List (List ℕ)) {x : Lent} {s : State} {q : Sequ
   wait_by : (k l r : ℕ) → (k ≡ 0 → ⊥) → (k ≡ 1 → ⊥) → (k ≡ 3 → ⊥) → (k ≡ 4 → ⊥) → (Q : M.Sequent) (S : M.State) (e : M.Entry)
       (os : List M.Entry) (i c d : ℕ) → on_impl (limited (limits_of m)) taken (asks m taken d) Q S e os i c (shape_of k l r) ≡
       asks m taken d M.by_left (go_on Q (Q.unordered ++ (e ∷ [])) os) S
-  unfolding on_impl shape_of
-  wait_by zero l r a b c f Q S e os i g d = absurd (a refl)
-  wait_by (suc zero) l r a b c f Q S e os i g d = absurd (b refl)
-  wait_by (suc (suc zero)) l r a b c f Q S e os i g d = refl
-  wait_by (suc (suc (suc zero))) l r a b c f Q S e os i g d = absurd (c refl)
-  wait_by (suc (suc (suc (suc zero)))) l r a b c f Q S e os i g d = absurd (f refl)
-  wait_by (suc (suc (suc (suc (suc zero))))) l r a b c f Q S e os i g d = refl
-  wait_by (suc (suc (suc (suc (suc (suc k)))))) l r a b c f Q S e os i g d = refl
+  unfolding on_impl
+  wait_by k l r a b c f Q S e os i g d = by_kind (λ sh. on_impl (limited (limits_of m)) taken (asks m taken d) Q S e os i g sh ≡
+      asks m taken d M.by_left (go_on Q (Q.unordered ++ (e ∷ [])) os) S) k l r
+      (λ z. absurd (a z)) (λ z. absurd (b z)) (λ z. absurd (c z)) (λ z. absurd (f z)) (λ z. refl) (λ n. refl)
 
   pub left_wait : {x1 y : Lent} {q1 : Sequent} {r : Answer} → (kind_at x.words (from_of x q) ≡ 0 → ⊥) →
       (kind_at x.words (from_of x q) ≡ 1 → ⊥) → (kind_at x.words (from_of x q) ≡ 3 → ⊥) → (kind_at x.words (from_of x q) ≡ 4 → ⊥) →

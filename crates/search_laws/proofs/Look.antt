@@ -1,13 +1,13 @@
 -- What the words say: shapes by their kinds, children below, and what theory's book has at an index. And the nodes that 16 bits hold.
 -- Assumes nothing.
-use Prim.Native.Nat.{ℕ, ◌+◌, ◌<◌}
-use mathlib.Core.Path.{◌≡◌, ap, ap₂, ◌∙◌, subst}
+use Prim.Native.Nat.{ℕ, zero, suc, ◌+◌, ◌<◌}
+use mathlib.Core.Path.{◌≡◌, refl, ap, ap₂, ◌∙◌, subst}
 use mathlib.Core.List.{List}
 use native.Mathlib.Omega.{arith}
 use lib.ListN.{length, get_or, take}
 use lib.Seq.{length-take-le}
 use lib.Dec.{lit≤}
-use Rattle.theory.specs.Form.{Shape, is_top, shape, shape_of, Book, look, Below}
+use Rattle.theory.specs.Form.{Shape, is_top, is_bot, is_leaf, is_and, is_or, is_imp, shape, shape_of, Book, look, Below}
 use Rattle.theory.specs.Term.{Piece, NodeIn, NamesHave}
 use Rattle.theory.specs.Meter as M
 use Rattle.theory.proofs.Words.{word_below}
@@ -19,6 +19,18 @@ use Rattle.meter.specs.Moves.{spent}
 use Rattle.search_laws.specs.Reading.{Lent, kind_at, left_at, right_at, shape_at, book, Shows}
 use Rattle.search_laws.specs.Keeping.{Rep}
 use Rattle.search_laws.proofs.Tables.{upto_at}
+
+-- what holds of each shape under its kind's number holds of the shape of a kind's number
+pub by_kind : (P : Shape → Type 0) (k l r : ℕ) → (k ≡ 0 → P is_top) → (k ≡ 1 → P is_bot) → (k ≡ 3 → P (is_and l r)) →
+    (k ≡ 4 → P (is_or l r)) → (k ≡ 5 → P (is_imp l r)) → ((n : ℕ) → P (is_leaf n l)) → P (shape_of k l r)
+unfolding shape_of
+by_kind P zero l r a b c d e f = a refl
+by_kind P (suc zero) l r a b c d e f = b refl
+by_kind P (suc (suc zero)) l r a b c d e f = f 2
+by_kind P (suc (suc (suc zero))) l r a b c d e f = c refl
+by_kind P (suc (suc (suc (suc zero)))) l r a b c d e f = d refl
+by_kind P (suc (suc (suc (suc (suc zero))))) l r a b c d e f = e refl
+by_kind P (suc (suc (suc (suc (suc (suc k)))))) l r a b c d e f = f (6 + k)
 
 -- the shape of a word by its kind
 pub shape_as : (f : List ℕ) (i : ℕ) {k : ℕ} → kind_at f i ≡ k → shape_at f i ≡ shape_of k (left_at f i) (right_at f i)

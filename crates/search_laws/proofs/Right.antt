@@ -1,6 +1,6 @@
 -- The ways through right: True, And with its two premises, and what is left to left. Assumes nothing.
 use Rattle.std.specs.Prelude.{Ok, Err}
-use Prim.Native.Nat.{ℕ, zero, suc, ◌+◌, ◌<◌, ◌≤◌}
+use Prim.Native.Nat.{ℕ, ◌+◌, ◌<◌, ◌≤◌}
 use mathlib.Core.Path.{◌≡◌, refl, sym, ap, ap₂, ◌∙◌, subst}
 use mathlib.Core.List.{List, []}
 use native.Mathlib.Omega.{arith}
@@ -30,7 +30,7 @@ use Rattle.search_laws.proofs.Charge.{passes}
 use Rattle.search_laws.proofs.Making.{made_of, count_seq}
 use Rattle.search_laws.proofs.Branch.{gives_as, goes_by, gives_asked, gives_close}
 use Rattle.search_laws.proofs.Branch.{gives_short, gives_lost, gives_found, back_found}
-use Rattle.search_laws.proofs.Look.{shape_as, look_at, children, fits16, spent_none}
+use Rattle.search_laws.proofs.Look.{shape_as, look_at, children, fits16, spent_none, by_kind}
 
 -- the same sequent a level up with another goal: no words, no nodes
 pub up_made : {m : Limits} {x : Lent} {s : State} {q q1 : Sequent} {w1 : List Rec} {g : ℕ} → Rep m x s q →
@@ -77,14 +77,10 @@ module _ {m : Limits} (taken : List (List ℕ)) {x : Lent} {s : State} {q : Sequ
   -- the kinds that right leaves to left
   else_by : (k l r : ℕ) → (k ≡ 0 → ⊥) → (k ≡ 3 → ⊥) → (k ≡ 5 → ⊥) → (Q : M.Sequent) (S : M.State) (d : ℕ) →
       on_right (limited (limits_of m)) taken (asks m taken d) Q S (shape_of k l r) ≡ asks m taken d M.by_left Q S
-  unfolding on_right shape_of
-  else_by zero l r a b c Q S d = absurd (a refl)
-  else_by (suc zero) l r a b c Q S d = refl
-  else_by (suc (suc zero)) l r a b c Q S d = refl
-  else_by (suc (suc (suc zero))) l r a b c Q S d = absurd (b refl)
-  else_by (suc (suc (suc (suc zero)))) l r a b c Q S d = refl
-  else_by (suc (suc (suc (suc (suc zero))))) l r a b c Q S d = absurd (c refl)
-  else_by (suc (suc (suc (suc (suc (suc k)))))) l r a b c Q S d = refl
+  unfolding on_right
+  else_by k l r a b c Q S d = by_kind
+      (λ sh. on_right (limited (limits_of m)) taken (asks m taken d) Q S sh ≡ asks m taken d M.by_left Q S) k l r
+      (λ z. absurd (a z)) (λ z. refl) (λ z. absurd (b z)) (λ z. refl) (λ z. absurd (c z)) (λ n. refl)
 
   pub right_else_lem : {r : Answer} {y : Lent} → (kind_at x.words q.goal ≡ 0 → ⊥) → (kind_at x.words q.goal ≡ 3 → ⊥) →
       (kind_at x.words q.goal ≡ 5 → ⊥) → Meets M.by_left m taken x s q r y → Goes M.by_right m taken x s q r y
