@@ -13,6 +13,7 @@ const BITS: usize = 2;
 const MASK: u8 = 3;
 
 // The marks: of a symbol that has not stood yet, and of one that has, by its kind.
+// They stay numbers: a table holds them as two bits, so an enum would be made from bits and turned into bits at each use, and be no plainer.
 const NONE: u8 = 0;
 
 const ATOM: u8 = 1;
