@@ -65,11 +65,16 @@ gives_close rule rep fits c = record {
 
 -- a charge that passes a limit; c and l are the records and the level of what would come next
 pub gives_short : {m : Limits} {x : Lent} {s : State} {q : Sequent} {e : Missed} {u f t c l : ℕ} (ws : Book) (ns : List Node)
-    (Q : M.Sequent) (k : ℕ → M.State → M.State → M.Answer) → Tested m (Err e) s u f t c l → f ≡ s.formulas + length ws → t ≡ s.terms + length ns →
+    (Q : M.Sequent) (k : ℕ → M.State → M.State → M.Answer) → Tested m (Err e) s u f t c l → f ≡ s.formulas + length ws →
+    t ≡ s.terms + length ns →
     c ≡ count Q → l ≡ Q.level → Within m s → Gives (λ d S. charge (limits_of m) u ws ns Q S (k d S)) m x s q (Err e) x
 gives_short {m} ws ns Q k tested ef et ec el i = record {
   means = λ S sh. charge_short ws ns Q (λ d. k d S) sh tested ef et ec el;
-  kept = record { frame = frame_refl; within = subst (λ (v : Missed). Within m (missed_at v)) (sym (refused (sym tested.is)).says) i; after = tt };
+  kept = record {
+    frame = frame_refl;
+    within = subst (λ (v : Missed). Within m (missed_at v)) (sym (refused (sym tested.is)).says) i;
+    after = tt;
+  };
 }
 
 -- what comes after it is the conclusion's

@@ -30,7 +30,8 @@ yields b o = elim o [ none ↦ none | some t ↦ some (t, b) ]
 -- only an implication fires
 other_kind_lem : (ws : Book) (us : List Entry) (k l r : ℕ) → (k ≡ 5 → ⊥) → fire_shape ws us (shape_of k l r) ≡ none
 unfolding fire_shape
-other_kind_lem ws us k l r h = by_kind (λ sh. fire_shape ws us sh ≡ none) k l r (λ z. refl) (λ z. refl) (λ z. refl) (λ z. refl) (λ z. absurd (h z)) (λ n. refl)
+other_kind_lem ws us k l r h =
+    by_kind (λ sh. fire_shape ws us sh ≡ none) k l r (λ z. refl) (λ z. refl) (λ z. refl) (λ z. refl) (λ z. absurd (h z)) (λ n. refl)
 
 -- and it fires by the leaf that it goes from
 by_leaf : (ws : Book) (us : List Entry) (b : ℕ) (s : Shape) → fire_leaf ws us b s ≡ yields b (leaf_of ws us s)

@@ -114,12 +114,14 @@ module _ {m : Limits} (taken : List (List ℕ)) {x : Lent} {s : State} {q : Sequ
   -- a record that is no implication
   other_by : (k l r : ℕ) (ws : Book) → (k ≡ 5 → ⊥) → nest ws (shape_of k l r) ≡ none
   unfolding nest
-  other_by k l r ws a = by_kind (λ sh. nest ws sh ≡ none) k l r (λ z. refl) (λ z. refl) (λ z. refl) (λ z. refl) (λ z. absurd (a z)) (λ n. refl)
+  other_by k l r ws a =
+      by_kind (λ sh. nest ws sh ≡ none) k l r (λ z. refl) (λ z. refl) (λ z. refl) (λ z. refl) (λ z. absurd (a z)) (λ n. refl)
 
   -- an implication from something else
   flat_by : (l r k l1 r1 : ℕ) → (k ≡ 5 → ⊥) → nest_left l r (shape_of k l1 r1) ≡ none
   unfolding nest_left
-  flat_by l r k l1 r1 a = by_kind (λ sh. nest_left l r sh ≡ none) k l1 r1 (λ z. refl) (λ z. refl) (λ z. refl) (λ z. refl) (λ z. absurd (a z)) (λ n. refl)
+  flat_by l r k l1 r1 a =
+      by_kind (λ sh. nest_left l r sh ≡ none) k l1 r1 (λ z. refl) (λ z. refl) (λ z. refl) (λ z. refl) (λ z. absurd (a z)) (λ n. refl)
 
   look_here : {S : M.State} → Shows x s S → {sh : Shape} → shape_at x.words (formula_of x q i) ≡ sh → look S.words
       (record_at x q i).formula ≡ sh

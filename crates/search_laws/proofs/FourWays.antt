@@ -51,7 +51,8 @@ module _ {m : Limits} (taken : List (List ℕ)) {x : Lent} {s2 : State} {q : Seq
   unfolding second_try entry_at
   second_by next seen S S2 sh d = rw (sh.used, sh.many)
 
-  pub second_short : {e : Missed} {s : State} → Tested m (Err e) s2 s2.indices s2.formulas (s2.terms + 1) (q.unordered + q.ordered) (q.level + 1) → Finishes m taken x s s2 q i c t (Err e) x
+  pub second_short : {e : Missed} {s : State} → Tested m (Err e) s2 s2.indices s2.formulas (s2.terms + 1) (q.unordered + q.ordered)
+      (q.level + 1) → Finishes m taken x s s2 q i c t (Err e) x
   second_short {e = Failed s3} tested = absurd (search (rules, (refused (sym tested.is)).says))
   second_short {e = Short n s3} tested =
       let o = second_count taken rep none_left here c t c_in t_in in
@@ -145,7 +146,8 @@ module _ {m : Limits} (taken : List (List ℕ)) {x : Lent} {s : State} {q : Sequ
   abbrev after_found : Next → Seen → M.State → ℕ → ℕ → M.State → M.Answer
   after_found next seen S d t S2 = second_try m taken x q i (end_of x q i) next seen S d t S2
 
-  pub try_lacks : {e : Missed} → Tested m (Err e) s (b + 1) (s.formulas + 1) (s.terms + 5) (q.unordered + q.ordered) (q.level + 1) → TriesAt m taken x s q i (Err e) x
+  pub try_lacks : {e : Missed} → Tested m (Err e) s (b + 1) (s.formulas + 1) (s.terms + 5) (q.unordered + q.ordered) (q.level + 1) →
+      TriesAt m taken x s q i (Err e) x
   try_lacks {e = Failed s1} t = absurd (search (rules, (refused (sym t.is)).says))
   try_lacks {e = Short n s1} t =
       let o = first_count taken rep none_left here e k ea eb in
@@ -195,13 +197,15 @@ module _ {m : Limits} (taken : List (List ℕ)) {x : Lent} {s : State} {q : Sequ
       is = λ next seen. gives_as _ (trying_by taken rep none_left here e k ea eb next seen)
           (gives_try_found mk (after_found next seen) (on_first next seen) rep up p
           (g.is next seen (record { words = []; nodes = []; used = 0; steps = 0 })).kept
-          (λ S sh S2 sh2. comes_as (λ d. after_found next seen S d f.node S2) (over p ec next seen S f.node S2) ((g.is next seen S).means S2 sh2)));
+          (λ S sh S2 sh2. comes_as (λ d. after_found next seen S d f.node S2) (over p ec next seen S f.node S2)
+          ((g.is next seen S).means S2 sh2)));
     }
     try_then {f} {c} (Err (Short n s3)) {z} p ec g = record {
       is = λ next seen. gives_as _ (trying_by taken rep none_left here e k ea eb next seen)
           (gives_try_found mk (after_found next seen) (on_first next seen) rep up p
           (g.is next seen (record { words = []; nodes = []; used = 0; steps = 0 })).kept
-          (λ S sh S2 sh2. comes_as (λ d. after_found next seen S d f.node S2) (over p ec next seen S f.node S2) ((g.is next seen S).means S2 sh2)));
+          (λ S sh S2 sh2. comes_as (λ d. after_found next seen S d f.node S2) (over p ec next seen S f.node S2)
+          ((g.is next seen S).means S2 sh2)));
     }
     try_then {f} {c} (Err (Failed s3)) {z} p ec g = record {
       is = (

@@ -118,7 +118,8 @@ module _ {m : Limits} (taken : List (List ℕ)) {x : Lent} {s : State} {q : Sequ
           gives_as _ or_by (gives_try_found mk (λ S d. inl_end m d) after_first rep up p end.kept (λ S sh. end.means))
 
       -- the first half failed, and what is left gives r
-      pub tries_first_failed : {s2 : State} {r : Answer} {z : Lent} → q.level < q1.level → Meets M.by_right m taken x1 s q1 (Err (Failed s2)) y →
+      pub tries_first_failed : {s2 : State} {r : Answer} {z : Lent} → q.level < q1.level →
+          Meets M.by_right m taken x1 s q1 (Err (Failed s2)) y →
           Seconds m taken (right_at y.words q.goal) y (returned s s2) q r z → Gives (tries m taken (seq_of x.records q)) m x s q r z
       tries_first_failed {s2} {r} {z} up p g =
           let back = back_failed mk rep up p.kept in
@@ -165,7 +166,8 @@ module _ {m : Limits} (taken : List (List ℕ)) {x : Lent} {s : State} {q : Sequ
         }
 
     -- it failed too, and the positions give r
-    pub second_half_failed : {s2 : State} {r : Answer} {z : Lent} → q.level < q1.level → Meets M.by_right m taken x1 s q1 (Err (Failed s2)) y →
+    pub second_half_failed : {s2 : State} {r : Answer} {z : Lent} → q.level < q1.level →
+        Meets M.by_right m taken x1 s q1 (Err (Failed s2)) y →
         Ranges m taken y (returned s s2) q r z → Seconds m taken b x s q r z
     second_half_failed {s2} {r} {z} up p g =
         let back = back_failed mk rep up p.kept in

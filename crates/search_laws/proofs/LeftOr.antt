@@ -43,7 +43,8 @@ module _ {m : Limits} (taken : List (List ℕ)) {x : Lent} {s : State} {q : Sequ
   half_next a = or_next (seq_of x.records q) (others x q) a s.terms
 
   module _ {q1 : Sequent} (eq : q1 ≡ popped q) where
-    pub half_short : (a : ℕ) (k : ℕ → M.State → M.State → M.Answer) {e : Missed} → Tested m (Err e) s (g + 1) s.formulas (s.terms + 1) (q1.unordered + q1.ordered + 1) (q1.level + 1) →
+    pub half_short : (a : ℕ) (k : ℕ → M.State → M.State → M.Answer) {e : Missed} →
+        Tested m (Err e) s (g + 1) s.formulas (s.terms + 1) (q1.unordered + q1.ordered + 1) (q1.level + 1) →
         Gives (λ d S. charge (limits_of m) (g + 1) [] (by left_or (ident (name g) ∷ [])) (half_next a) S (k d S)) m x s q (Err e) x
     unfolding or_next count
     half_short a k t =
@@ -93,7 +94,8 @@ module _ {m : Limits} (taken : List (List ℕ)) {x : Lent} {s : State} {q : Sequ
       let f : fresh taken S.used ≡ g = ap (fresh taken) sh.used ∙ sym eg in
       left_by_lem taken rep some or_shape S sh d ∙ rw (f, sh.many, add-one)
 
-  pub left_or_short : {e : Missed} {q1 : Sequent} → q1 ≡ popped q → Tested m (Err e) s (g + 1) s.formulas (s.terms + 1) (q1.unordered + q1.ordered + 1) (q1.level + 1) →
+  pub left_or_short : {e : Missed} {q1 : Sequent} → q1 ≡ popped q →
+      Tested m (Err e) s (g + 1) s.formulas (s.terms + 1) (q1.unordered + q1.ordered + 1) (q1.level + 1) →
       Goes M.by_left m taken x s q (Err e) x
   left_or_short eq t = goes_by or_by (half_short taken rep some eg eq (left_at x.words (top_formula x q)) _ t)
 
@@ -135,7 +137,8 @@ module _ {m : Limits} (taken : List (List ℕ)) {x : Lent} {s : State} {q : Sequ
       let f : fresh taken S.used ≡ g = ap (fresh taken) sh.used ∙ sym eg in
       rw (f, sh.many, add-one)
 
-  pub or_second_short : {e : Missed} {q1 : Sequent} → q1 ≡ popped q → Tested m (Err e) s (g + 1) s.formulas (s.terms + 1) (q1.unordered + q1.ordered + 1) (q1.level + 1) →
+  pub or_second_short : {e : Missed} {q1 : Sequent} → q1 ≡ popped q →
+      Tested m (Err e) s (g + 1) s.formulas (s.terms + 1) (q1.unordered + q1.ordered + 1) (q1.level + 1) →
       Gives (λ d S. or_second m taken (seq_of x.records q) (others x q) b h v d i S) m x s q (Err e) x
   or_second_short eq t = gives_as _ second_by (half_short taken rep some eg eq b _ t)
 

@@ -51,7 +51,8 @@ up_made {m} {x} {s} {q} {q1} {w1} {g} rep t h ew eq =
     refl refl refl (omega arith)))
 
 -- no level is left for it, or another limit is passed
-pub up_short : {m : Limits} {x : Lent} {s : State} {q : Sequent} {e : Missed} → Rep m x s q → (g : ℕ) (k : ℕ → M.State → M.State → M.Answer) →
+pub up_short : {m : Limits} {x : Lent} {s : State} {q : Sequent} {e : Missed} → Rep m x s q → (g : ℕ)
+    (k : ℕ → M.State → M.State → M.Answer) →
     Tested m (Err e) s s.indices s.formulas s.terms (q.unordered + q.ordered) (q.level + 1) →
     Gives (λ d S. charge (limits_of m) s.indices [] [] (goal_up (seq_of x.records q) g) S (k d S)) m x s q (Err e) x
 unfolding goal_up count

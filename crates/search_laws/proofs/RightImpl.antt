@@ -59,7 +59,8 @@ module _ {m : Limits} (taken : List (List ℕ)) {x : Lent} {s : State} {q : Sequ
         ∙ rw (g, sh.many, add-one)
 
     pub right_impl_short : {e : Missed} →
-        Tested m (Err e) s (a + 1) s.formulas (s.terms + 1) (q.unordered + q.ordered + 1) (q.level + 1) → Goes M.by_right m taken x s q (Err e) x
+        Tested m (Err e) s (a + 1) s.formulas (s.terms + 1) (q.unordered + q.ordered + 1) (q.level + 1) →
+        Goes M.by_right m taken x s q (Err e) x
     unfolding push_up count
     right_impl_short t = goes_by impl_by
         (gives_short [] (by right_impl (ident (name a) ∷ [])) impl_next _ t (omega arith) refl

@@ -69,7 +69,8 @@ pub record Past (m : Limits) (x : Lent) (s : State) (q : Sequent) (s1 : State) (
 -- what a try at position i comes to
 abbrev pub Tried : Limits → List (List ℕ) → Lent → State → Sequent → ℕ → Answer → Lent → Type 0
 Tried m taken x s q i (Ok f) y = (next : Next) (seen : Seen) → Gives (trying m taken x q i next seen) m x s q (Ok f) y
-Tried m taken x s q i (Err (Short l s1)) y = (next : Next) (seen : Seen) → Gives (trying m taken x q i next seen) m x s q (Err (Short l s1)) y
+Tried m taken x s q i (Err (Short l s1)) y = (next : Next) (seen : Seen) →
+    Gives (trying m taken x q i next seen) m x s q (Err (Short l s1)) y
 Tried m taken x s q i (Err (Failed s1)) y = Past m x s q s1 y × ((next : Next) (seen : Seen) (S : M.State) → Shows x s S →
     HandsOn next S s1 (λ d. trying m taken x q i next seen d S))
 
