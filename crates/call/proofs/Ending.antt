@@ -11,7 +11,6 @@ use lib.ListN.{length}
 use borrow.Author.Tests.{le-leb, lt-leb}
 use Rattle.theory.specs.Names.{skipped}
 use Rattle.theory.specs.NameText.{names_in}
-use Rattle.theory.specs.Refusal.{lack_number}
 use Rattle.theory.specs.Meter as M
 use Rattle.theory.specs.Meter.{fits, spend}
 use Rattle.theory.specs.Search.{idents, given, whole, prove}
@@ -19,9 +18,10 @@ use Rattle.theory.specs.Call.{Claim, given_book, refusal, search_limits, searche
 use Rattle.theory.proofs.Called.{only_answer}
 use Rattle.meter.specs.declared.Sequent.{Sequent}
 use Rattle.meter.specs.declared.Limits.{Limits}
-use Rattle.meter.specs.declared.Answer.{Answer}
-use Rattle.meter.specs.declared.Answer.TheVariants.{Found, Failed, Short}
-use Rattle.meter.specs.Moves.{limits_of}
+use Rattle.std.specs.Prelude.{Ok, Err}
+use Rattle.meter.specs.declared.Limit.TheVariants.{Terms}
+use Rattle.meter.specs.declared.Missed.TheVariants.{Short}
+use Rattle.meter.specs.Moves.{Answer, limits_of, limit_of}
 use Rattle.context.specs.Area.{Rec}
 use Rattle.search_laws.specs.Reading.{Lent, lent, seq_of}
 use Rattle.search_laws.specs.Keeping.{After, Rep}
@@ -38,10 +38,9 @@ said_finished (says_short l k n) p = absurd (let z : ◌≡◌ {A = ℕ} 0 1 = c
 
 -- the fills have grown from the given count and 0 as well
 after_start : (y : Lent) (count n : ℕ) (r : Answer) → After y (first_state count n) r → After y (first_state count 0) r
-after_start y count n (Found i s) g =
+after_start y count n (Ok found) g =
     record { laid = g.laid; formulas_up = g.formulas_up; terms_up = omega arith; root_in = g.root_in }
-after_start y count n (Failed s) g = tt
-after_start y count n (Short k s) g = tt
+after_start y count n (Err missed) g = tt
 
 -- the code's limits are the call's
 pub limits_of_lem : (x : Claim) → limits_of (limits_in x) ≡ search_limits x
@@ -51,8 +50,8 @@ limits_of_lem x = refl
 module _ (x : Claim) (w : List Rec) (passed : refusal x ≡ none) (records : length w ≡ x.records) where
   -- fewer rooms for nodes than assumptions: "a shortage of terms there has steps 0"
   pub ends_short : (limits_in x).terms < length x.assumed →
-      Ends x w (Short 9 (first_state x.count 0)) (lent x.words x.terms w)
-  unfolding searched prove whole spend fits search_limits given lack_number
+      Ends x w (Err (Short Terms (first_state x.count 0))) (lent x.words x.terms w)
+  unfolding searched prove whole spend fits search_limits given limit_of
   ends_short h = record {
     answer = M.short M.Terms 0;
     is = rw (spend, lt-leb (0 + length (idents 0 x.assumed)) (limits_in x).terms (omega (arith, idents_many 0 x.assumed)));

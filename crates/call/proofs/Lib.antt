@@ -1,4 +1,3 @@
-pub mod Refusals
 pub mod Seating
 pub mod Given
 pub mod First

@@ -7,7 +7,7 @@ use Rattle.theory.specs.Call.{Claim, searched}
 use Rattle.meter.specs.declared.State.{State}
 use Rattle.meter.specs.declared.Sequent.{Sequent}
 use Rattle.meter.specs.declared.Limits.{Limits}
-use Rattle.meter.specs.declared.Answer.{Answer}
+use Rattle.meter.specs.Moves.{Answer}
 use Rattle.context.specs.Moves.{stretch}
 use Rattle.context.specs.Area.{Rec, rec}
 use Rattle.search_laws.specs.Reading.{Lent, lent, put_nodes}

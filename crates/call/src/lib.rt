@@ -1,24 +1,25 @@
 #![tactic(auto)]
 // All of the one public call but its search: the refusals 1 to 5, the limits, the assumptions' Idents and the first sequent, and at the
 // end the clears and the numbers that come back. What is `pub` here is for the public call: a `requires` is what it shows before it calls.
-ghost use Rattle.std.specs.Prelude.{◌≡◌, ◌&&◌, ◌≤◌, length, take, replicate};
+ghost use Rattle.std.specs.Prelude.{◌≡◌, ◌&&◌, ◌≤◌, length, take, replicate, Err};
 ghost use Rattle.theory.specs.NameText.{padded};
-ghost use Rattle.theory.specs.Refusal.{formula_sizes, term_sizes, work_sizes, highest_level};
-ghost use Rattle.theory.specs.Call.{refusal, or_zero};
+ghost use Rattle.theory.specs.Refusal.{formula_sizes, term_sizes, work_sizes};
+ghost use Rattle.theory.specs.Call.{refusal};
 ghost use Rattle.refusal.specs.Table.{refused_by};
 ghost use Rattle.context.specs.Area.{zeroed};
 ghost use Rattle.search_laws.specs.Reading.{put_nodes};
 ghost use Rattle.call.specs.Lent.{claim_of, later_refusal, limits_for};
 ghost use Rattle.call.specs.Start.{first_sequent, idents_from, seated};
-ghost use Rattle.call.specs.Outcomes.{words_kept, numbers_kept, outcome_for, keeps};
+ghost use Rattle.call.specs.Outcomes.{numbers_of, words_kept, numbers_kept, outcome_for, keeps};
 
 use context::Record;
-use meter::{Answer, Limits, Sequent};
-use refusal::{Levels, Place, Tested};
+use meter::{Answer, Found, Limit, Limits, Missed, Sequent};
+use proof_term::Node;
+use refusal::Refusal;
 
-// What comes back (document 01, "Numbers that come back").
-#[derive(Clone, Copy)]
-pub enum Outcome {
+// What a search comes to that was let through and had room (document 01, "Numbers that come back").
+#[derive(Clone, Copy, PartialEq, Eq)]
+pub enum Verdict {
     // a derivation was found: its root, and what the search has used and left
     Proved {
         root: usize,
@@ -34,45 +35,89 @@ pub enum Outcome {
         formulas: usize,
         terms: usize,
     },
-    // a limit would be passed: its number in the table, and the steps entered
-    Short {
-        number: usize,
-        steps: usize,
-    },
-    // the input breaks what is asked of it: the row's number, and where
-    Refused {
-        number: usize,
-        place: usize,
-    },
+}
+
+// Why there is no verdict.
+#[derive(Clone, Copy, PartialEq, Eq)]
+pub enum NoAnswer {
+    // a limit would be passed, and the steps entered
+    Short { limit: Limit, steps: usize },
+    // the input breaks what is asked of it
+    Refused(Refusal),
+}
+
+// What comes back.
+pub type Outcome = Result<Verdict, NoAnswer>;
+
+impl From<Refusal> for NoAnswer {
+    ghost use Rattle.call.specs.declared.NoAnswer.TheVariants.{Refused};
+
+    ghost from_gives = { λ refusal answer. answer ≡ Refused refusal };
+
+    fn from(refusal: Refusal) -> NoAnswer {
+        NoAnswer::Refused(refusal)
+    }
+}
+
+impl NoAnswer {
+    // The number of document 01's table.
+    #[tactic(auto, unfolding(crate::specs::Outcomes::numbers_of))]
+    pub fn number(self) -> usize
+        ensures { result ≡ (numbers_of (Err self)).number }
+    {
+        match self {
+            NoAnswer::Short { limit, .. } => limit.number(),
+            NoAnswer::Refused(refusal) => refusal.number(),
+        }
+    }
+
+    // The place of what is refused; 0 for a shortage.
+    #[tactic(auto, unfolding(crate::specs::Outcomes::numbers_of))]
+    pub fn place(self) -> usize
+        ensures { result ≡ (numbers_of (Err self)).place }
+    {
+        match self {
+            NoAnswer::Short { .. } => 0,
+            NoAnswer::Refused(refusal) => refusal.place(),
+        }
+    }
+
+    // The steps entered; none where the input is refused.
+    #[tactic(auto, unfolding(crate::specs::Outcomes::numbers_of))]
+    pub fn steps(self) -> usize
+        ensures { result ≡ (numbers_of (Err self)).steps }
+    {
+        match self {
+            NoAnswer::Short { steps, .. } => steps,
+            NoAnswer::Refused(_) => 0,
+        }
+    }
 }
 
 // 1: every size.
 fn right_sizes(room: usize, count: usize, numbers: usize, records: usize, steps: usize) -> bool
     ensures { result ≡ formula_sizes room count && (term_sizes numbers && work_sizes records steps) }
 {
-    if refusal::formula_sizes(room, count) {
-        if refusal::term_sizes(numbers) {
-            return refusal::work_sizes(records, steps);
-        }
-        return false;
-    }
-    false
+    refusal::formula_sizes(room, count)
+        && refusal::term_sizes(numbers)
+        && refusal::work_sizes(records, steps)
 }
 
 // 3 to 5, in that order.
-fn later_refusal(count: usize, assumed: &[u16], names: &[u8], goal: usize) -> Tested
+#[tactic(auto, unfolding(crate::specs::Lent::later_refusal, theory::specs::Refusal::or_else, theory::specs::Refusal::fault_at))]
+fn later_refusal(count: usize, assumed: &[u16], names: &[u8], goal: usize) -> Result<(), Refusal>
     ensures { refused_by result ≡ later_refusal count assumed.now names.now goal }
 {
-    match refusal::bad_assumption(assumed, count) {
-        Place::At(place) => Tested::BadAssumption(place),
-        Place::Nowhere => match refusal::bad_name(names, assumed.len()) {
-            Place::At(place) => Tested::BadNames(place),
-            Place::Nowhere => match refusal::bad_goal(count, goal) {
-                Place::At(place) => Tested::BadGoal(place),
-                Place::Nowhere => Tested::Passed,
-            },
-        },
+    if let Some(place) = refusal::bad_assumption(assumed, count) {
+        return Err(Refusal::BadAssumption(place));
     }
+    if let Some(place) = refusal::bad_name(names, assumed.len()) {
+        return Err(Refusal::BadNames(place));
+    }
+    if let Some(place) = refusal::bad_goal(count, goal) {
+        return Err(Refusal::BadGoal(place));
+    }
+    Ok(())
 }
 
 // 1 to 5, in that order.
@@ -85,31 +130,22 @@ pub fn test_claim(
     terms: &[u16],
     records: usize,
     steps: usize,
-) -> Tested
+) -> Result<(), Refusal>
     ensures { refused_by result ≡ refusal
         (claim_of words.now count assumed.now names.now goal terms.now records steps) }
 {
-    if right_sizes(words.len(), count, terms.len(), records, steps) {
-        match refusal::bad_word(words, count) {
-            Place::At(place) => Tested::BadFormula(place),
-            Place::Nowhere => later_refusal(count, assumed, names, goal),
-        }
-    } else {
-        Tested::Sizes
+    if !right_sizes(words.len(), count, terms.len(), records, steps) {
+        return Err(Refusal::Sizes);
     }
+    if let Some(place) = refusal::bad_word(words, count) {
+        return Err(Refusal::BadFormula(place));
+    }
+    later_refusal(count, assumed, names, goal)
 }
 
-// The highest level, 0 for a work area that is refused.
-fn levels(records: usize) -> usize
-    ensures { result ≡ or_zero (highest_level records) }
-{
-    match refusal::highest_level(records) {
-        Levels::UpTo(n) => n,
-        Levels::WrongRecords => 0,
-    }
-}
-
-// What the search may use of a formula slice of `room` words, a term slice of so many numbers and a work area of so many records.
+// What the search may use of a formula slice of `room` words, a term slice of so many numbers and a work area of so many records. The
+// highest level is 0 for a work area that is refused.
+#[tactic(auto, unfolding(theory::specs::Call::or_zero))]
 pub fn limits(room: usize, numbers: usize, records: usize, steps: usize) -> Limits
     ensures { result ≡ limits_for room numbers records steps }
 {
@@ -117,7 +153,7 @@ pub fn limits(room: usize, numbers: usize, records: usize, steps: usize) -> Limi
         steps,
         formulas: room,
         terms: numbers / proof_term::WIDTH,
-        levels: levels(records),
+        levels: refusal::highest_level(records).unwrap_or(0),
     }
 }
 
@@ -134,60 +170,59 @@ pub fn assume(terms: &mut [u16], work: &mut [Record], assumed: &[u16], goal: usi
         ordered: 0,
         goal,
     };
-    let mut i = 0;
-    while i < assumed.len() {
-        proof_term::put(terms, i, proof_term::IDENT, i, 0, 0, 0, 0);
-        sequent = context::push(work, sequent, refusal::assumption(assumed, i), i);
-        i += 1;
+    for (i, formula) in assumed.iter().enumerate() {
+        proof_term::put(terms, i, Node::Ident(i));
+        sequent = context::push(work, sequent, usize::from(*formula), i);
     }
     sequent
 }
 
 // How many formula words stay after an answer.
+#[tactic(auto, unfolding(crate::specs::Outcomes::words_kept))]
 fn words_kept(count: usize, answer: Answer) -> usize
     ensures { result ≡ words_kept count answer }
 {
     match answer {
-        Answer::Found(_, s) => s.formulas,
-        Answer::Failed(_) => count,
-        Answer::Short(_, _) => count,
+        Ok(found) => found.state.formulas,
+        Err(_) => count,
     }
 }
 
 // How many term numbers stay after an answer.
+#[tactic(auto, unfolding(crate::specs::Outcomes::numbers_kept))]
 fn numbers_kept(answer: Answer) -> usize
     requires { keeps answer }
     ensures { result ≡ numbers_kept answer }
 {
     match answer {
-        Answer::Found(_, s) => s.terms * proof_term::WIDTH,
-        Answer::Failed(_) => 0,
-        Answer::Short(_, _) => 0,
+        Ok(found) => found.state.terms * proof_term::WIDTH,
+        Err(_) => 0,
     }
 }
 
 // The numbers that come back after an answer.
+#[tactic(auto, unfolding(crate::specs::Outcomes::outcome_for))]
 fn outcome_for(count: usize, answer: Answer) -> Outcome
     ensures { result ≡ outcome_for count answer }
 {
     match answer {
-        Answer::Found(root, s) => Outcome::Proved {
+        Ok(Found { node: root, state }) => Ok(Verdict::Proved {
             root,
-            steps: s.steps,
-            indices: s.indices,
-            formulas: s.formulas,
-            terms: s.terms,
-        },
-        Answer::Failed(s) => Outcome::Unprovable {
-            steps: s.steps,
-            indices: s.indices,
+            steps: state.steps,
+            indices: state.indices,
+            formulas: state.formulas,
+            terms: state.terms,
+        }),
+        Err(Missed::Failed(state)) => Ok(Verdict::Unprovable {
+            steps: state.steps,
+            indices: state.indices,
             formulas: count,
             terms: 0,
-        },
-        Answer::Short(number, s) => Outcome::Short {
-            number,
-            steps: s.steps,
-        },
+        }),
+        Err(Missed::Short(limit, state)) => Err(NoAnswer::Short {
+            limit,
+            steps: state.steps,
+        }),
     }
 }
 
