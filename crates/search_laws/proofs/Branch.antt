@@ -104,6 +104,16 @@ back_at {m} {x} {y} {s} {s2} {q} rep f within ly hf ht =
           seats.unordered_is seats.ordered_is;
     }
 
+-- a failed try gives its formulas and terms back, and keeps its indices and steps
+pub back_returned : {m : Limits} {x y : Lent} {s s2 : State} {q : Sequent} → Rep m x s q → Frame x s.formulas s.terms (q.level + 1) y →
+    Within m s2 → Back m x s q (returned s s2) y
+back_returned rep f w = back_at rep f (record {
+  in_steps = w.in_steps;
+  in_indices = w.in_indices;
+  in_formulas = rep.within.in_formulas;
+  in_terms = rep.within.in_terms;
+}) (laid_same f.words rep.laid) (omega arith) (omega arith)
+
 module _ {m : Limits} {x x1 y : Lent} {s s1 : State} {q q1 : Sequent} {u : ℕ} {ws : Book} {ns : List Node} {Q : M.Sequent}
     (mk : Made m x s q u ws ns Q x1 s1 q1) where
   pub after_made : {r : Answer} → Kept m x1 s1 q1 r y → Frame x s.formulas s.terms q1.level y
@@ -125,19 +135,8 @@ module _ {m : Limits} {x x1 y : Lent} {s s1 : State} {q q1 : Sequent} {u : ℕ} 
         let f : Frame x s.formulas s.terms (q.level + 1) y = frame_less (omega arith) (omega arith) (omega arith) (after_made k) in
         back_at rep f rep.within (laid_same f.words rep.laid) (omega arith) (omega arith)
 
-    -- a failed try gives its formulas and terms back
     pub back_failed : {s2 : State} → Kept m x1 s1 q1 (Err (Failed s2)) y → Back m x s q (returned s s2) y
-    back_failed k =
-        let f : Frame x s.formulas s.terms (q.level + 1) y =
-        frame_less (omega arith) (omega arith) (omega arith) (after_made k) in
-        back_at rep f
-        (record {
-          in_steps = k.within.in_steps;
-          in_indices = k.within.in_indices;
-          in_formulas = rep.within.in_formulas;
-          in_terms = rep.within.in_terms;
-        })
-        (laid_same f.words rep.laid) (omega arith) (omega arith)
+    back_failed k = back_returned rep (frame_less (omega arith) (omega arith) (omega arith) (after_made k)) k.within
 
 -- a charge paid, and the rest
 pub paid : {m : Limits} {x x1 z : Lent} {s s1 : State} {q q1 : Sequent} {u : ℕ} {ws : Book} {ns : List Node} {Q : M.Sequent} {r : Answer}

@@ -23,16 +23,16 @@ use Rattle.meter.proofs.Laws.{refused}
 use Rattle.context.specs.Moves.{stretch}
 use Rattle.context.specs.Area.{zeroed}
 use Rattle.search_laws.specs.Reading.{Lent, kind_at, entry_at, unordered_in, Shows}
-use Rattle.search_laws.specs.Keeping.{Same, Rep, Frame}
-use Rattle.search_laws.specs.Meaning.{says_found, asks, Meets}
+use Rattle.search_laws.specs.Keeping.{Same, Rep}
+use Rattle.search_laws.specs.Meaning.{says_found, asks, Meets, Gives}
 use Rattle.search_laws.specs.Making.{Tested, Made, Back}
 use Rattle.search_laws.specs.Trying.{Next, record_at, records_before, records_from, trying, second_next, second_try, HandsOn, TriesAt}
 use Rattle.search_laws.specs.Trying.{Past, Finishes}
 use Rattle.search_laws.specs.Records.{formula_of, term_of, premise_of, end_of}
 use Rattle.search_laws.proofs.Tables.{upto_ext, from_ext}
-use Rattle.search_laws.proofs.Same.{entry_by, frame_less, frame_trans, laid_same}
+use Rattle.search_laws.proofs.Same.{entry_by, frame_less, frame_trans}
 use Rattle.search_laws.proofs.Combine.{comes_as, comes_now, try_short, try_found, FailsAs, fails_as, FindsAs, finds_as}
-use Rattle.search_laws.proofs.Branch.{gives_as, gives_short, back_at, after_made, made_kept, back_failed, back_found}
+use Rattle.search_laws.proofs.Branch.{gives_as, gives_short, after_made, made_kept, back_failed, back_found, back_returned}
 use Rattle.search_laws.proofs.Branch.{paid, asks_made, gives_try_short, gives_try_found}
 use Rattle.search_laws.proofs.Four.{second_count, trying_by, first_next, first_words, first_pieces}
 use Rattle.search_laws.proofs.Four.{first_count}
@@ -85,16 +85,10 @@ module _ {m : Limits} (taken : List (List ℕ)) {x : Lent} {s2 : State} {q : Seq
     pub second_failed : {s s3 : State} → Rep m x s q → s.formulas ≤ s2.formulas → s.terms ≤ s2.terms → q.level < q1.level →
         Meets M.by_left m taken x1 s1 q1 (Err (Failed s3)) y → Finishes m taken x s s2 q i c t (Err (Failed (returned s s3))) y
     second_failed {s} {s3} rep0 hf ht up p =
-        let f : Frame x s.formulas s.terms (q.level + 1) y = frame_less hf ht (omega arith) (after_made mk p.kept) in
         record {
           is = (
             record {
-              back = back_at rep0 f (record {
-                in_steps = p.kept.within.in_steps;
-                in_indices = p.kept.within.in_indices;
-                in_formulas = rep0.within.in_formulas;
-                in_terms = rep0.within.in_terms;
-              }) (laid_same f.words rep0.laid) (omega arith) (omega arith);
+              back = back_returned rep0 (frame_less hf ht (omega arith) (after_made mk p.kept)) p.kept.within;
               formulas = refl;
               terms = refl;
             },
@@ -190,23 +184,22 @@ module _ {m : Limits} (taken : List (List ℕ)) {x : Lent} {s : State} {q : Sequ
         second_back x y q f (omega (arith, rep.seats.fits)) m taken i (end_of x q i) here next seen S d j S2
         ∙ ap (λ (v : ℕ). second_try m taken y q i v next seen S d j S2) (sym ec)
 
+    -- where the second premise ends the try, its answer is the whole's
+    then_gives : {f : Found} {c : ℕ} {r : Answer} {z : Lent} → Meets M.by_right m taken x1 s1 q1 (Ok f) y → c ≡ end_of x q i →
+        ((next : Next) (seen : Seen) (S : M.State) →
+        Gives (λ d S2. second_try m taken y q i c next seen S d f.node S2) m y f.state q r z) →
+        (next : Next) (seen : Seen) → Gives (trying m taken x q i next seen) m x s q r z
+    then_gives {f} p ec g next seen = gives_as _ (trying_by taken rep none_left here e k ea eb next seen)
+        (gives_try_found mk (after_found next seen) (on_first next seen) rep up p
+        (g next seen (record { words = []; nodes = []; used = 0; steps = 0 })).kept
+        (λ S sh S2 sh2. comes_as (λ d. after_found next seen S d f.node S2) (over p ec next seen S f.node S2)
+        ((g next seen S).means S2 sh2)))
+
     -- the first premise is found, and its second comes to r
     pub try_then : {f : Found} {c : ℕ} (r : Answer) {z : Lent} → Meets M.by_right m taken x1 s1 q1 (Ok f) y → c ≡ end_of x q i →
         Finishes m taken y s f.state q i c f.node r z → TriesAt m taken x s q i r z
-    try_then {f} {c} (Ok h) {z} p ec g = record {
-      is = λ next seen. gives_as _ (trying_by taken rep none_left here e k ea eb next seen)
-          (gives_try_found mk (after_found next seen) (on_first next seen) rep up p
-          (g.is next seen (record { words = []; nodes = []; used = 0; steps = 0 })).kept
-          (λ S sh S2 sh2. comes_as (λ d. after_found next seen S d f.node S2) (over p ec next seen S f.node S2)
-          ((g.is next seen S).means S2 sh2)));
-    }
-    try_then {f} {c} (Err (Short n s3)) {z} p ec g = record {
-      is = λ next seen. gives_as _ (trying_by taken rep none_left here e k ea eb next seen)
-          (gives_try_found mk (after_found next seen) (on_first next seen) rep up p
-          (g.is next seen (record { words = []; nodes = []; used = 0; steps = 0 })).kept
-          (λ S sh S2 sh2. comes_as (λ d. after_found next seen S d f.node S2) (over p ec next seen S f.node S2)
-          ((g.is next seen S).means S2 sh2)));
-    }
+    try_then {f} {c} (Ok h) {z} p ec g = record { is = then_gives p ec g.is }
+    try_then {f} {c} (Err (Short n s3)) {z} p ec g = record { is = then_gives p ec g.is }
     try_then {f} {c} (Err (Failed s3)) {z} p ec g = record {
       is = (
         twice (back_found mk rep up p.kept) g.is.0,

@@ -94,8 +94,8 @@ rooms_after f r = record {
   records_room = omega (arith, r.records_room, f.records.long);
 }
 
-pub inside_same : {nf nt : ℕ} {w w1 : List Rec} {i : ℕ} → get_or w1 i zeroed ≡ get_or w i zeroed → Inside nf nt w i → Inside nf nt w1 i
-inside_same {nf} {nt} {w} {w1} {i} e x = record {
+pub inside_same : {nf nt : ℕ} {w w1 : List Rec} {i j : ℕ} → get_or w1 j zeroed ≡ get_or w i zeroed → Inside nf nt w i → Inside nf nt w1 j
+inside_same {nf} {nt} e x = record {
   formula_in = subst (λ (r : Rec). r.formula < nf) (sym e) x.formula_in;
   term_in = subst (λ (r : Rec). r.term < nt) (sym e) x.term_in;
 }

@@ -21,12 +21,6 @@ use Rattle.search_laws.proofs.Seat.{unordered_length}
 use Rattle.context.proofs.Copies.{copies_length, copies_below, copies_at}
 use Rattle.context.proofs.Copies.{shifts_length, shifts_below, shifts_above, shifts_at}
 
-inside_moved : {nf nt : ℕ} {w w1 : List Rec} (i j : ℕ) → get_or w1 j zeroed ≡ get_or w i zeroed → Inside nf nt w i → Inside nf nt w1 j
-inside_moved {nf} {nt} i j e y = record {
-  formula_in = subst (λ (r : Rec). r.formula < nf) (sym e) y.formula_in;
-  term_in = subst (λ (r : Rec). r.term < nt) (sym e) y.term_in;
-}
-
 module _ {m : Limits} {nf nt : ℕ} {w : List Rec} {q : Sequent} {us os : List Entry} (x : Seats m nf nt w q us os) where
   module _ (lv : q.level < m.levels) (room : (m.levels + 1) * stretch ≤ length w) where
     -- the unordered records are copied, then the ordered ones
@@ -81,11 +75,8 @@ module _ {m : Limits} {nf nt : ℕ} {w : List Rec} {q : Sequent} {us os : List E
       level_in = omega arith;
       fits = x.fits;
       goal_in = h;
-      unordered_inside = λ i k. inside_moved (q.level * stretch + i) ((q.level + 1) * stretch + i) (raised_front i k)
-          (x.unordered_inside i k);
-      ordered_inside = λ i k. inside_moved (q.level * stretch + stretch - 1 - i) ((q.level + 1) * stretch + stretch - 1 - i)
-          (raised_back i k)
-          (x.ordered_inside i k);
+      unordered_inside = λ i k. inside_same (raised_front i k) (x.unordered_inside i k);
+      ordered_inside = λ i k. inside_same (raised_back i k) (x.ordered_inside i k);
       unordered_is = upto_ext q.unordered
           (λ i k. entry_by w (raised w q) (q.level * stretch + i) ((q.level + 1) * stretch + i) (raised_front i k)) ∙ x.unordered_is;
       ordered_is = downto_ext q.ordered
@@ -177,8 +168,7 @@ module _ {m : Limits} {nf nt : ℕ} {w : List Rec} {q : Sequent} {us os : List E
               go : (b : Bool) → ltb j i ≡ b → Inside nf nt gone (q.level * stretch + j)
               go true l = inside_same (gone_front j (ltb-true j i l)) (x.unordered_inside j (omega (arith, many)))
               go false l =
-                  inside_moved (q.level * stretch + suc j) (q.level * stretch + j) (gone_next j (ltb-false j i l) h)
-                  (x.unordered_inside (suc j) (omega (arith, many)))
+                  inside_same (gone_next j (ltb-false j i l) h) (x.unordered_inside (suc j) (omega (arith, many)))
 
       -- those before it and those after it
       pub seats_out : {w1 : List Rec} {q1 : Sequent} → w1 ≡ removed w q (length before) → q1 ≡ without q →

@@ -1,14 +1,11 @@
 -- Laws of lists read off a function. Assumes nothing.
+use Rattle.std.proofs.lemmas.List.{places}
 use Prim.Native.Nat.{ℕ, zero, suc, ◌+◌, ◌<◌}
-use mathlib.Core.Path.{◌≡◌, refl, sym, ap, ap₂, ◌∙◌, subst}
-use mathlib.Core.Bool.{Bool, true, false}
+use mathlib.Core.Path.{◌≡◌, refl, sym, ap, ap₂, ◌∙◌}
 use mathlib.Core.List.{List, [], ◌∷◌, ◌++◌, append_assoc, append-nil}
 use native.Mathlib.Omega.{arith}
 use native.Mathlib.Nat.{not-suc-le-zero}
-use lib.ListN.{length, get_or, length-append, get_or-append}
-use lib.Seq.{get_or-append_seam}
-use lib.Dec.{eqb}
-use borrow.Author.Tests.{eqb-true, eqb-false}
+use lib.ListN.{length, get_or, length-append}
 use Rattle.search_laws.specs.Tables.{upto, downto, from}
 
 module _ {A : Type 0} where
@@ -38,17 +35,7 @@ module _ {A : Type 0} where
   pub upto_at : (g : ℕ → A) (n i : ℕ) (d : A) → i < n → get_or (upto g n) i d ≡ g i
   unfolding upto
   upto_at g zero i d h = absurd (not-suc-le-zero h)
-  upto_at g (suc n) i d h = go (eqb i n) refl (λ k. upto_at g n i d k)
-    where
-      go : (b : Bool) → eqb i n ≡ b → (i < n → get_or (upto g n) i d ≡ g i) → get_or (upto g n ++ (g n ∷ [])) i d ≡ g i
-      go true e r =
-          let z : i ≡ n = eqb-true i n e in
-          subst (λ (k : ℕ). get_or (upto g n ++ (g n ∷ [])) k d ≡ g k) (sym z)
-          (subst (λ (k : ℕ). get_or (upto g n ++ (g n ∷ [])) k d ≡ g n) (upto_length g n) (get_or-append_seam (upto g n) (g n) [] d))
-      go false e r =
-          let z : i ≡ n → ⊥ = eqb-false i n e in
-          let k : i < n = omega arith in
-          get_or-append (upto g n) (g n ∷ []) d i (omega (arith, upto_length g n)) ∙ r k
+  upto_at g (suc n) i d h = grind (arith, places, upto_length g n, upto_at g n i d)
 
   -- the first i, and then the next k
   pub upto_split : (g : ℕ → A) (i k : ℕ) → upto g (i + k) ≡ upto g i ++ from g i k
@@ -77,6 +64,4 @@ module _ {A : Type 0} where
   parts_same [] [] c d l e = (refl, e)
   parts_same [] (y ∷ b) c d l e = absurd (omega arith)
   parts_same (x ∷ a) [] c d l e = absurd (omega arith)
-  parts_same (x ∷ a) (y ∷ b) c d l e =
-      let r = parts_same a b c d (omega arith) (cc) in
-      let h : x ≡ y = cc in (ap₂ (λ (z : A) (zs : List A). z ∷ zs) h r.0, r.1)
+  parts_same (x ∷ a) (y ∷ b) c d l e = let r = parts_same a b c d (omega arith) cc in (cc, r.1)
