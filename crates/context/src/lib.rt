@@ -44,7 +44,8 @@ pub fn term_at(work: &[Record], i: usize) -> usize
     work.get(i).map_or(0, |record| usize::from(record.term))
 }
 
-// Record i becomes a formula and a term, 16 bits of each; nothing changes out of range.
+// Record i becomes a formula and a term, 16 bits of each; nothing changes out of range. It is stored by its index, since the proof
+// does not close over `get_mut`, after which nothing is known of the other records.
 pub fn put(work: &mut [Record], i: usize, a: usize, x: usize)
     ensures { work.new ≡ set work.old i (rec a x) }
 {

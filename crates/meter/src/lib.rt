@@ -11,10 +11,10 @@ const MOST_INDICES: usize = 4096;
 // The most records over both contexts of a sequent.
 pub const MOST_RECORDS: usize = 256;
 
-// What can run short, in the order of document 01's table.
+// What can run short, by the numbers of document 01's table.
 #[derive(Clone, Copy, PartialEq, Eq)]
 pub enum Limit {
-    Steps,
+    Steps = 6,
     Names,
     Formulas,
     Terms,
@@ -82,18 +82,11 @@ pub enum Next {
 }
 
 impl Limit {
-    // The number of document 01's table by which a shortage is told.
+    // The number by which a shortage is told.
     pub fn number(self) -> usize
         ensures { result ≡ number_of self }
     {
-        match self {
-            Limit::Steps => 6,
-            Limit::Names => 7,
-            Limit::Formulas => 8,
-            Limit::Terms => 9,
-            Limit::Contexts => 10,
-            Limit::Levels => 11,
-        }
+        self as usize
     }
 }
 
@@ -115,10 +108,10 @@ impl State {
         ensures { result ≡ spent self indices formulas terms }
     {
         State {
-            steps: self.steps,
             indices,
             formulas: self.formulas + formulas,
             terms: self.terms + terms,
+            ..self
         }
     }
 
