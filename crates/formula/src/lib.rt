@@ -23,7 +23,7 @@ pub enum Kind {
 impl From<usize> for Kind {
     ghost from_gives = { λ number kind. kind ≡ kind_named number };
 
-    #[tactic(auto, unfolding(crate::specs::Kinds::kind_named))]
+    #[tactic(auto, using(crate::proofs::KindLaws::unknown), unfolding(crate::specs::Kinds::kind_named))]
     fn from(number: usize) -> Kind {
         match number {
             0 => Kind::True,
@@ -143,6 +143,7 @@ pub fn pack(kind: Kind, left: usize, right: usize) -> u32
 }
 
 // "Leaves are equal when their words are": whether v is a leaf and w the same.
+#[tactic(auto, using(crate::proofs::KindLaws::leaf_named), unfolding(crate::specs::Leaves::equal_leaves))]
 pub fn equal_leaves(v: u32, w: u32) -> bool
     ensures { result ≡ equal_leaves v w }
 {
@@ -150,6 +151,7 @@ pub fn equal_leaves(v: u32, w: u32) -> bool
 }
 
 // The layout of a word at index i: True and False have no fields, a leaf has no right, And, Or and Impl look back.
+#[tactic(auto, using(crate::proofs::KindLaws::laid_by_kind))]
 pub fn laid_out(packed: u32, i: usize) -> bool
     ensures { result ≡ laid_out i packed }
 {
