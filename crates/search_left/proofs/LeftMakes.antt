@@ -1,32 +1,29 @@
 -- The rules of left that make two formulas and two names, as the code does them: (A∧B)→C and (A∨B)→C. Assumes nothing.
-use Prim.Native.Nat.{ℕ, suc, ◌+◌, ◌<◌, ◌≤◌}
-use mathlib.Core.Path.{◌≡◌, refl, ap, ap₂, ◌∙◌}
-use mathlib.Core.List.{List, [], ◌∷◌, ◌++◌}
+use Prim.Native.Nat.{ℕ, ◌+◌, ◌<◌, ◌≤◌}
+use mathlib.Core.Path.{◌≡◌, ap, ap₂, ◌∙◌}
+use mathlib.Core.List.{List}
 use native.Mathlib.Omega.{arith}
 use lib.ListN.{length, set, length-append}
+use Rattle.std.specs.Prelude.{Ok, Err}
 use Rattle.theory.specs.Form.{is_imp, word}
-use Rattle.theory.specs.Term.{Piece, inl, inr}
+use Rattle.theory.specs.Term.{inl, inr}
 use Rattle.theory.specs.NameText.{names_in}
 use Rattle.theory.specs.Names.{skipped, reserved, fresh}
 use Rattle.theory.specs.Meter as M
-use Rattle.theory.specs.Meter.{lacking}
 use Rattle.theory.proofs.Derive.{fresh_above}
 use Rattle.theory.proofs.FirstFree.{fresh_bound}
 use Rattle.meter.specs.declared.State.{State}
 use Rattle.meter.specs.declared.Sequent.{Sequent}
 use Rattle.meter.specs.declared.Limits.{Limits}
-use Rattle.meter.specs.declared.Answer.TheVariants.{Short}
-use Rattle.meter.specs.declared.Next.TheVariants.{Go, End}
-use Rattle.meter.specs.Moves.{spent, limits_of, number_of}
+use Rattle.meter.specs.declared.Missed.{Missed}
+use Rattle.meter.specs.declared.Next.TheVariants.{Go}
+use Rattle.meter.specs.Moves.{spent}
 use Rattle.context.specs.Moves.{pushed, popped}
 use Rattle.context.specs.Area.{Rec, rec, push_place}
-use Rattle.theory.specs.Term.{six_of}
-use Rattle.proof_term.specs.Put.{put_node}
 use Rattle.search_laws.specs.Reading.{Lent, lent, left_at, right_at, put_nodes}
 use Rattle.search_laws.specs.Keeping.{Rep}
-use Rattle.search_laws.specs.Making.{Tested, Passes}
-use Rattle.search_laws.specs.Turning.{Turns, turns_on, turns_end}
-use Rattle.search_laws.proofs.Areas.{fields}
+use Rattle.search_laws.specs.Making.{Tested}
+use Rattle.search_laws.specs.Turning.{Turns, turns_on, turns_missed}
 use Rattle.search_laws.proofs.Charge.{passes}
 use Rattle.search_laws.proofs.LeftImpl.{ends_in}
 use Rattle.search_laws.proofs.LeftNew.{curry_parts, left_curry_short, left_curry_made, left_curry}
@@ -35,7 +32,7 @@ use Rattle.search_laws.proofs.FallsNew.{left_curry_falls, left_sides_falls}
 use Rattle.search_left.specs.Last.{LastFrom}
 use Rattle.search_laws.specs.Pieces.{curried, composed, injected}
 use Rattle.search_laws.specs.Records.{top_term, to_of, first_of, second_of}
-use Rattle.search_left.proofs.Charged.{tested_popped}
+use Rattle.search_left.proofs.Written.{put_append}
 use Rattle.search_left.proofs.LeftTurns.{kind_last, kind_from}
 
 -- at most 64 names are skipped, so that the two indices after those that are used are small
@@ -54,14 +51,6 @@ module _ {m : Limits} {x : Lent} {s : State} {q : Sequent} (rep : Rep m x s q) (
 names_rise : (taken : List (List ℕ)) {g h : ℕ} → h ≡ fresh taken (g + 1) → g < h
 names_rise taken {g} e = omega (arith, fresh_above taken (g + 1))
 
--- nodes after nodes
-put_append : (t : List ℕ) (n : ℕ) (ps rs : List Piece) → put_nodes (put_nodes t n ps) (n + length ps) rs ≡ put_nodes t n (ps ++ rs)
-unfolding put_nodes
-put_append t n [] rs = ap (λ (k : ℕ). put_nodes t k rs) (let e : n + 0 ≡ n = omega arith in e)
-put_append t n (p ∷ ps) rs =
-    ap (λ (k : ℕ). put_nodes (put_nodes t n (p ∷ ps)) k rs) (let e : n + suc (length ps) ≡ suc n + length ps = omega arith in e)
-    ∙ put_append (put_node t n (six_of p)) (suc n) ps rs
-
 -- inl's five nodes and then inr's
 sides_put : (t : List ℕ) (n a b x f g : ℕ) {t1 t2 : List ℕ} → t1 ≡ put_nodes t n (composed n a (inl n) x f) →
     t2 ≡ put_nodes t1 (n + 5) (composed (n + 5) b (inr (n + 5)) x g) → t2 ≡ put_nodes t n (injected n a b x f g)
@@ -76,24 +65,17 @@ sides_put t n a b x f g e1 e2 =
 module _ {m : Limits} (taken : List (List ℕ)) {x : Lent} {s : State} {q : Sequent} (rep : Rep m x s q) {a t : ℕ} {g h : ℕ}
     (eg : g ≡ fresh taken s.indices) (eh : h ≡ fresh taken (g + 1)) where
   -- (A∧B)→C
-  module _ (l : LastFrom x q 3 a t) {n : ℕ}
-      (e : n ≡ number_of (lacking (limits_of m) (h + 1) (s.formulas + 2) (s.terms + 7) (q.unordered + q.ordered) q.level)) where
-    curry_tested : {q1 : Sequent} → q1 ≡ popped q →
-        Tested m n (h + 1) (s.formulas + 2) (s.terms + 7) (q1.unordered + q1.ordered + 1) q1.level
-    curry_tested eq = let k = fields eq in let o = l.last.some in tested_popped q eq e (omega arith)
+  module _ (l : LastFrom x q 3 a t) where
+    pub curry_short : {e : Missed} →
+        Tested m (Err e) s (h + 1) (s.formulas + 2) (s.terms + 7) (q.unordered + q.ordered) q.level → Turns m taken x s q M.by_left (Err e) x
+    curry_short e =
+        turns_missed (left_curry_short taken rep l.last.some (kind_last taken rep l.last) eg eh (kind_from taken rep l) e)
 
-    pub curry_short : (n ≡ 0 → ⊥) → Turns m taken x s q M.by_left (End (Short n s)) x
-    curry_short z = turns_end (left_curry_short taken rep l.last.some (kind_last taken rep l.last) eg eh (kind_from taken rep l) refl
-        (curry_tested refl) z)
-
-    module _ (z : n ≡ 0) where
-      curry_paid : Passes m (h + 1) (s.formulas + 2) (s.terms + 7) (q.unordered + q.ordered) q.level
-      curry_paid = passes (record { is = e }) z
-
+    module _ (paid : Tested m (Ok tt) s (h + 1) (s.formulas + 2) (s.terms + 7) (q.unordered + q.ordered) q.level) where
       -- what the code may call
       pub curry_room : (s.formulas + 2 ≤ 16384) × (s.terms + 7 ≤ 16384) × (g ≤ 4096) × (h ≤ 4096)
       curry_room =
-          let p = curry_paid in
+          let p = passes paid in
           let r = rep.rooms in
           let o = names_rise taken eh in
           (omega arith, omega arith, omega arith, omega arith)
@@ -116,7 +98,7 @@ module _ {m : Limits} (taken : List (List ℕ)) {x : Lent} {s : State} {q : Sequ
             f1 ≡ set x.words s.formulas (word (is_imp r c)) → f2 ≡ set f1 (s.formulas + 1) (word (is_imp b s.formulas)) →
             t1 ≡ put_nodes x.numbers s.terms (curried s.terms g h t (s.formulas + 1)) → q1 ≡ popped q →
             w1 ≡ set x.records (push_place q1) (rec (s.formulas + 1) (s.terms + 6)) → q2 ≡ pushed q1 → s1 ≡ spent s (h + 1) 2 7 →
-            Turns m taken x s q M.by_left (Go s1 q2) (lent f2 t1 w1)
+            Turns m taken x s q M.by_left (Ok (Go s1 q2)) (lent f2 t1 w1)
         curry_on {f1} {f2} {t1} {w1} {s1} {q1} {q2} ef ef2 et eq ew eq2 es =
             let k = kind_last taken rep l.last in
             let d = kind_from taken rep l in
@@ -129,7 +111,7 @@ module _ {m : Limits} (taken : List (List ℕ)) {x : Lent} {s : State} {q : Sequ
             et ∙ ap (λ (u : ℕ). put_nodes x.numbers s.terms (curried s.terms g h u (s.formulas + 1))) l.last.term in
             let ew2 : w1 ≡ set x.records (push_place q1) (rec (s.formulas + 1) (6 + s.terms)) =
             ew ∙ ap (λ (u : ℕ). set x.records (push_place q1) (rec (s.formulas + 1) u)) (omega arith) in
-            let mk = left_curry_made taken rep l.last.some k eg eh d eq (curry_tested eq) z ef3 ef4 et2 ew2 eq2 es in
+            let mk = left_curry_made taken rep l.last.some k eg eh d paid eq ef3 ef4 et2 ew2 eq2 es in
             turns_on (record {
               rep = mk.rep;
               carries = λ r z. left_curry taken rep l.last.some k eg eh d mk;
@@ -137,23 +119,17 @@ module _ {m : Limits} (taken : List (List ℕ)) {x : Lent} {s : State} {q : Sequ
             })
 
   -- (A∨B)→C
-  module _ (l : LastFrom x q 4 a t) {n : ℕ}
-      (e : n ≡ number_of (lacking (limits_of m) (h + 1) (s.formulas + 2) (s.terms + 10) (q.unordered + q.ordered + 1) q.level)) where
-    sides_tested : {q1 : Sequent} → q1 ≡ popped q →
-        Tested m n (h + 1) (s.formulas + 2) (s.terms + 10) (q1.unordered + q1.ordered + 2) q1.level
-    sides_tested eq = let k = fields eq in let o = l.last.some in tested_popped q eq e (omega arith)
+  module _ (l : LastFrom x q 4 a t) where
+    pub sides_short : {e : Missed} →
+        Tested m (Err e) s (h + 1) (s.formulas + 2) (s.terms + 10) (q.unordered + q.ordered + 1) q.level →
+        Turns m taken x s q M.by_left (Err e) x
+    sides_short e =
+        turns_missed (left_sides_short taken rep l.last.some (kind_last taken rep l.last) eg eh (kind_from taken rep l) e)
 
-    pub sides_short : (n ≡ 0 → ⊥) → Turns m taken x s q M.by_left (End (Short n s)) x
-    sides_short z = turns_end (left_sides_short taken rep l.last.some (kind_last taken rep l.last) eg eh (kind_from taken rep l) refl
-        (sides_tested refl) z)
-
-    module _ (z : n ≡ 0) where
-      sides_paid : Passes m (h + 1) (s.formulas + 2) (s.terms + 10) (q.unordered + q.ordered + 1) q.level
-      sides_paid = passes (record { is = e }) z
-
+    module _ (paid : Tested m (Ok tt) s (h + 1) (s.formulas + 2) (s.terms + 10) (q.unordered + q.ordered + 1) q.level) where
       pub sides_room : (s.formulas + 2 ≤ 16384) × (s.terms + 10 ≤ 16384) × (g ≤ 4096) × (h ≤ 4096)
       sides_room =
-          let p = sides_paid in
+          let p = passes paid in
           let r = rep.rooms in
           let o = names_rise taken eh in
           (omega arith, omega arith, omega arith, omega arith)
@@ -178,7 +154,7 @@ module _ {m : Limits} (taken : List (List ℕ)) {x : Lent} {s : State} {q : Sequ
             t2 ≡ put_nodes t1 (s.terms + 5) (composed (s.terms + 5) h (inr (s.terms + 5)) t (s.formulas + 1)) → q1 ≡ popped q →
             w1 ≡ set x.records (push_place q1) (rec s.formulas (s.terms + 4)) → q2 ≡ pushed q1 →
             w2 ≡ set w1 (push_place q2) (rec (s.formulas + 1) (s.terms + 9)) → q3 ≡ pushed q2 → s1 ≡ spent s (h + 1) 2 10 →
-            Turns m taken x s q M.by_left (Go s1 q3) (lent f2 t2 w2)
+            Turns m taken x s q M.by_left (Ok (Go s1 q3)) (lent f2 t2 w2)
         sides_on {f1} {f2} {t1} {t2} {w1} {w2} {s1} {q1} {q2} {q3} ef ef2 et et2 eq ew eq2 ew2 eq3 es =
             let k = kind_last taken rep l.last in
             let d = kind_from taken rep l in
@@ -195,7 +171,7 @@ module _ {m : Limits} (taken : List (List ℕ)) {x : Lent} {s : State} {q : Sequ
             ew ∙ ap (λ (u : ℕ). set x.records (push_place q1) (rec s.formulas u)) (omega arith) in
             let ew4 : w2 ≡ set w1 (push_place q2) (rec (s.formulas + 1) (9 + s.terms)) =
             ew2 ∙ ap (λ (u : ℕ). set w1 (push_place q2) (rec (s.formulas + 1) u)) (omega arith) in
-            let mk = left_sides_made taken rep l.last.some k eg eh d eq (sides_tested eq) z ef3 ef4 et3 ew3 eq2 ew4 eq3 es in
+            let mk = left_sides_made taken rep l.last.some k eg eh d paid eq ef3 ef4 et3 ew3 eq2 ew4 eq3 es in
             turns_on (record {
               rep = mk.rep;
               carries = λ r z. left_sides taken rep l.last.some k eg eh d mk;

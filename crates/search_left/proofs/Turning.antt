@@ -4,20 +4,21 @@ use Prim.Native.Nat.{ℕ, ◌<◌, ◌≤◌}
 use mathlib.Core.Path.{◌≡◌, sym, ap, ◌∙◌, subst}
 use mathlib.Core.List.{List}
 use native.Mathlib.Omega.{arith}
+use Rattle.std.specs.Prelude.{Result, Err}
 use Rattle.theory.specs.Meter as M
 use Rattle.meter.specs.declared.State.{State}
 use Rattle.meter.specs.declared.Sequent.{Sequent}
 use Rattle.meter.specs.declared.Limits.{Limits}
-use Rattle.meter.specs.declared.Answer.{Answer}
-use Rattle.meter.specs.declared.Answer.TheVariants.{Short}
+use Rattle.meter.specs.declared.Limit.TheVariants.{Steps}
+use Rattle.meter.specs.declared.Missed.{Missed}
+use Rattle.meter.specs.declared.Missed.TheVariants.{Short}
 use Rattle.meter.specs.declared.Next.{Next}
-use Rattle.meter.specs.declared.Next.TheVariants.{End}
-use Rattle.meter.specs.Moves.{stepped}
+use Rattle.meter.specs.Moves.{Answer, stepped}
 use Rattle.search_laws.specs.Reading.{Lent}
 use Rattle.search_laws.specs.Keeping.{Rep}
 use Rattle.search_laws.specs.Meaning.{Meets, Goes, weigh}
-use Rattle.search_laws.specs.Turning.{Turns, turns_on, turns_end, turns_split, turns_try}
-use Rattle.search_laws.specs.Turning.{Turned, turned_on, turned_end, turned_split, turned_try}
+use Rattle.search_laws.specs.Turning.{Turns, turns_on, turns_end, turns_missed, turns_split, turns_try}
+use Rattle.search_laws.specs.Turning.{Turned, turned_on, turned_end, turned_missed, turned_split, turned_try}
 use Rattle.search_laws.proofs.Combine.{stop, entered}
 use Rattle.search_laws.proofs.Left.{left_empty_lem}
 use Rattle.search_laws.proofs.FallsRight.{left_to_search}
@@ -38,8 +39,8 @@ rep_stepped {m} {x} {s} {s1} {q} rep h e = subst (λ (v : State). Rep m x v q) (
 
 module _ {m : Limits} (taken : List (List ℕ)) {x : Lent} {s : State} {q : Sequent} (rep : Rep m x s q) where
   -- no step is left
-  pub turned_stop : m.steps ≤ s.steps → Turned m taken x s q (End (Short 6 s)) x
-  turned_stop h = turned_end (stop h rep.within)
+  pub turned_stop : m.steps ≤ s.steps → Turned m taken x s q (Err (Short Steps s)) x
+  turned_stop h = turned_missed (stop h rep.within)
 
   module _ (h : s.steps < m.steps) {s1 : State} (e : s1 ≡ stepped s) where
     fill : s1.formulas ≡ s.formulas
@@ -50,7 +51,7 @@ module _ {m : Limits} (taken : List (List ℕ)) {x : Lent} {s : State} {q : Sequ
     less_here j {a} l = subst (λ (k : ℕ). a < weigh j x.words k x.records q) fill l
 
     -- a rule of left
-    pub turned_left : {n : Next} {y : Lent} → Turns m taken x s1 q M.by_left n y → Turned m taken x s q n y
+    pub turned_left : {n : Result Next Missed} {y : Lent} → Turns m taken x s1 q M.by_left n y → Turned m taken x s q n y
     turned_left (turns_on g) =
         let l = less_here M.by_left g.less in
         turned_on (record {
@@ -58,13 +59,14 @@ module _ {m : Limits} (taken : List (List ℕ)) {x : Lent} {s : State} {q : Sequ
           less = l;
         })
     turned_left (turns_end g) = turned_end (entered h e g)
+    turned_left (turns_missed g) = turned_missed (entered h e g)
     turned_left (turns_split g) =
         turned_split (record { rep = rep_stepped rep h e; is = g; fill = fill; carries = λ r z p. entered h e p })
 
     module _ (none : q.ordered ≡ 0) where
       -- no step is left for search
-      pub turned_stop_search : m.steps ≤ s1.steps → Turned m taken x s q (End (Short 6 s1)) x
-      turned_stop_search k = turned_end (entered h e (left_empty_lem none (stop k (rep_stepped rep h e).within)))
+      pub turned_stop_search : m.steps ≤ s1.steps → Turned m taken x s q (Err (Short Steps s1)) x
+      turned_stop_search k = turned_missed (entered h e (left_empty_lem none (stop k (rep_stepped rep h e).within)))
 
       -- a rule of search
       module _ (k : s1.steps < m.steps) {s2 : State} (e2 : s2 ≡ stepped s1) where
@@ -74,7 +76,7 @@ module _ {m : Limits} (taken : List (List ℕ)) {x : Lent} {s : State} {q : Sequ
         fills : s2.formulas ≡ s.formulas
         fills = ap (λ (v : State). v.formulas) e2 ∙ fill
 
-        pub turned_search : {n : Next} {y : Lent} → Turns m taken x s2 q M.by_search n y → Turned m taken x s q n y
+        pub turned_search : {n : Result Next Missed} {y : Lent} → Turns m taken x s2 q M.by_search n y → Turned m taken x s q n y
         turned_search (turns_on {y = y} {s1 = s3} {q1 = p} g) =
             let a : ℕ = weigh M.by_left y.words s3.formulas y.records p in
             let l : a < weigh M.by_search x.words s.formulas x.records q =
@@ -85,6 +87,7 @@ module _ {m : Limits} (taken : List (List ℕ)) {x : Lent} {s : State} {q : Sequ
               less = omega arith;
             })
         turned_search (turns_end g) = turned_end (through g)
+        turned_search (turns_missed g) = turned_missed (through g)
         turned_search (turns_try g) = turned_try (record {
           rep = rep_stepped (rep_stepped rep h e) k e2;
           none = none;

@@ -1,21 +1,24 @@
 -- What the writers of words and nodes leave, store by store. Assumes nothing.
 use Prim.Native.Nat.{ℕ, suc, ◌+◌, ◌%◌, ◌<◌}
 use mathlib.Core.Path.{◌≡◌, sym, ap, ap₂, ◌∙◌}
-use mathlib.Core.List.{List, [], ◌∷◌}
+use mathlib.Core.List.{List, [], ◌∷◌, ◌++◌, map}
 use native.Mathlib.Omega.{arith}
 use native.Mathlib.Nat.{mod-eq_of_lt}
-use lib.ListN.{length}
+use lib.ListN.{length, length-map, get_or, take}
+use lib.Seq.{length-take-le}
+use Rattle.std.specs.Prelude.{Ok}
 use Rattle.theory.specs.Form.{is_imp, word, pack}
+use Rattle.std.proofs.lemmas.List.{map_more}
 use Rattle.theory.specs.Term.{Piece, six_of}
+use Rattle.proof_term.specs.declared.Node.{Node}
+use Rattle.proof_term.specs.Kinds.{piece_of}
 use Rattle.proof_term.specs.Put.{put_node}
 use Rattle.meter.specs.declared.State.{State}
 use Rattle.meter.specs.declared.Limits.{Limits}
-use Rattle.meter.specs.declared.Answer.TheVariants.{Found}
 use Rattle.meter.specs.Moves.{spent}
 use Rattle.search_laws.specs.Reading.{put_nodes}
 use Rattle.search_laws.specs.Closing.{Closes, closes_node}
 use Rattle.search_laws.proofs.Write.{put_same}
-use Rattle.search_laws.specs.Pieces.{curried, composed}
 
 -- fields that have their width are packed as they are
 pub arrow_word : (a b : ℕ) → a < 16384 → b < 16384 → pack (5 % 16) (a % 16384) (b % 16384) ≡ word (is_imp a b)
@@ -26,39 +29,30 @@ arrow_word a b ha hb = ap₂ (λ (l r : ℕ). pack 5 l r) (mod-eq_of_lt ha) (mod
 pub put_long : (t : List ℕ) (n : ℕ) (ps : List Piece) {t1 : List ℕ} → t1 ≡ put_nodes t n ps → length t1 ≡ length t
 put_long t n ps e = ap length e ∙ (put_same t n ps).long
 
--- the last node of a rule
-pub close_is : {m : Limits} {t t1 : List ℕ} {s s1 : State} {k a b c d e : ℕ} → s.terms < m.terms →
-    t1 ≡ put_node t s.terms (k ∷ a ∷ b ∷ c ∷ d ∷ e ∷ []) → s1 ≡ spent s s.indices 0 1 → (p : Piece) →
-    six_of p ≡ k ∷ a ∷ b ∷ c ∷ d ∷ e ∷ [] → Closes m t s p (Found s.terms s1) t1
+-- nodes after nodes
+pub put_append : (t : List ℕ) (n : ℕ) (ps rs : List Piece) → put_nodes (put_nodes t n ps) (n + length ps) rs ≡ put_nodes t n (ps ++ rs)
 unfolding put_nodes
-close_is {m} {t} {t1} {s} {s1} h et es p ep =
-    let put : t1 ≡ put_nodes t s.terms (p ∷ []) = et ∙ ap (put_node t s.terms) (sym ep) in
+put_append t n [] rs = ap (λ (k : ℕ). put_nodes t k rs) (let e : n + 0 ≡ n = omega arith in e)
+put_append t n (p ∷ ps) rs =
+    ap (λ (k : ℕ). put_nodes (put_nodes t n (p ∷ ps)) k rs) (let e : n + suc (length ps) ≡ suc n + length ps = omega arith in e)
+    ∙ put_append (put_node t n (six_of p)) (suc n) ps rs
+
+-- one node more
+pub put_more : (t : List ℕ) (n k : ℕ) (nodes : List Node) {t1 t2 : List ℕ} (d : Node) → k < length nodes →
+    t1 ≡ put_nodes t n (map piece_of (take k nodes)) → t2 ≡ put_node t1 (n + k) (six_of (piece_of (get_or nodes k d))) →
+    t2 ≡ put_nodes t n (map piece_of (take (k + 1) nodes))
+unfolding put_nodes
+put_more t n k nodes {t1} {t2} d h e1 e2 =
+    let ps : List Piece = map piece_of (take k nodes) in
+    let x : Node = get_or nodes k d in
+    let many : length ps ≡ k = length-map (take k nodes) piece_of ∙ length-take-le k nodes (omega arith) in
+    e2 ∙ ap₂ (λ (u : List ℕ) (i : ℕ). put_node u (n + i) (six_of (piece_of x))) e1 (sym many)
+    ∙ put_append t n ps (piece_of x ∷ []) ∙ ap (put_nodes t n) (sym (map_more piece_of nodes k d h))
+
+-- the last node of a rule
+pub close_is : {m : Limits} {t t1 : List ℕ} {s s1 : State} {p : Piece} → s.terms < m.terms →
+    t1 ≡ put_node t s.terms (six_of p) → s1 ≡ spent s s.indices 0 1 → Closes m t s p (Ok (record { node = s.terms; state = s1 })) t1
+unfolding put_nodes
+close_is {m} {t} {t1} {s} {s1} {p} h et es =
+    let put : t1 ≡ put_nodes t s.terms (p ∷ []) = et in
     rw (es, put) (closes_node (omega arith))
-
--- node by node
-pub curried_is : (t : List ℕ) (n a b x f : ℕ) {t1 t2 t3 t4 t5 t6 t7 : List ℕ} → t1 ≡ put_node t n (0 ∷ (64 + a) ∷ 0 ∷ 0 ∷ 0 ∷ 0 ∷ []) →
-    t2 ≡ put_node t1 (n + 1) (0 ∷ (64 + b) ∷ 0 ∷ 0 ∷ 0 ∷ 0 ∷ []) → t3 ≡ put_node t2 (n + 2) (1 ∷ n ∷ (n + 1) ∷ 0 ∷ 0 ∷ 0 ∷ []) →
-    t4 ≡ put_node t3 (n + 3) (5 ∷ x ∷ (n + 2) ∷ 0 ∷ 0 ∷ 0 ∷ []) → t5 ≡ put_node t4 (n + 4) (4 ∷ (64 + b) ∷ (n + 3) ∷ 0 ∷ 0 ∷ 0 ∷ []) →
-    t6 ≡ put_node t5 (n + 5) (4 ∷ (64 + a) ∷ (n + 4) ∷ 0 ∷ 0 ∷ 0 ∷ []) → t7 ≡ put_node t6 (n + 6) (11 ∷ (n + 5) ∷ f ∷ 0 ∷ 0 ∷ 0 ∷ []) →
-    t7 ≡ put_nodes t n (curried n a b x f)
-unfolding put_nodes six_of
-curried_is t n a b x f e1 e2 e3 e4 e5 e6 e7 =
-    let n1 : (n + 1 ≡ suc n) × (1 + n ≡ suc n) = omega arith in
-    let n2 : (n + 2 ≡ suc (suc n)) × (2 + n ≡ suc (suc n)) = omega arith in
-    let n3 : (n + 3 ≡ suc (suc (suc n))) × (3 + n ≡ suc (suc (suc n))) = omega arith in
-    let n4 : (n + 4 ≡ suc (suc (suc (suc n)))) × (4 + n ≡ suc (suc (suc (suc n)))) = omega arith in
-    let n5 : (n + 5 ≡ suc (suc (suc (suc (suc n))))) × (5 + n ≡ suc (suc (suc (suc (suc n))))) = omega arith in
-    let n6 : (n + 6 ≡ suc (suc (suc (suc (suc (suc n)))))) × (6 + n ≡ suc (suc (suc (suc (suc (suc n)))))) = omega arith in
-    cc
-
-pub composed_is : (t : List ℕ) (n a k c d x f : ℕ) {t1 t2 t3 t4 t5 : List ℕ} → t1 ≡ put_node t n (0 ∷ (64 + a) ∷ 0 ∷ 0 ∷ 0 ∷ 0 ∷ []) →
-    t2 ≡ put_node t1 (n + 1) (k ∷ c ∷ d ∷ 0 ∷ 0 ∷ 0 ∷ []) → t3 ≡ put_node t2 (n + 2) (5 ∷ x ∷ (n + 1) ∷ 0 ∷ 0 ∷ 0 ∷ []) →
-    t4 ≡ put_node t3 (n + 3) (4 ∷ (64 + a) ∷ (n + 2) ∷ 0 ∷ 0 ∷ 0 ∷ []) → t5 ≡ put_node t4 (n + 4) (11 ∷ (n + 3) ∷ f ∷ 0 ∷ 0 ∷ 0 ∷ []) →
-    (p : Piece) → six_of p ≡ k ∷ c ∷ d ∷ 0 ∷ 0 ∷ 0 ∷ [] → t5 ≡ put_nodes t n (composed n a p x f)
-unfolding put_nodes six_of
-composed_is t n a k c d x f e1 e2 e3 e4 e5 p ep =
-    let n1 : (n + 1 ≡ suc n) × (1 + n ≡ suc n) = omega arith in
-    let n2 : (n + 2 ≡ suc (suc n)) × (2 + n ≡ suc (suc n)) = omega arith in
-    let n3 : (n + 3 ≡ suc (suc (suc n))) × (3 + n ≡ suc (suc (suc n))) = omega arith in
-    let n4 : (n + 4 ≡ suc (suc (suc (suc n)))) × (4 + n ≡ suc (suc (suc (suc n)))) = omega arith in
-    cc

@@ -1,12 +1,12 @@
 #![tactic(auto)]
 // What one rule of left writes and charges, where it asks nothing of another judgement; and the nodes and words that rules write.
 // What is `pub` here is for the crate `prove`: a `requires` is what its code shows before it calls.
-ghost use Rattle.std.specs.Prelude.{◌≡◌, List, [], ◌∷◌, ℕ, ◌≤◌, ◌<◌, length, set};
+ghost use Rattle.std.specs.Prelude.{◌≡◌, List, ℕ, ◌+◌, ◌≤◌, ◌<◌, length, map, set};
 ghost use Rattle.theory.specs.Form.{is_imp, word};
-ghost use Rattle.theory.specs.Term.{Piece, six_of};
 ghost use Rattle.theory.specs.NameText.{names_in};
 ghost use Rattle.theory.specs.Names.{skipped};
 ghost use Rattle.theory.specs.Meter.{by_left};
+ghost use Rattle.proof_term.specs.Kinds.{piece_of};
 ghost use Rattle.search_laws.specs.Reading.{lent, put_nodes};
 ghost use Rattle.search_laws.specs.Keeping.{Rep};
 ghost use Rattle.search_laws.specs.Closing.{Closes};
@@ -14,32 +14,26 @@ ghost use Rattle.search_laws.specs.Turning.{Turns, Turned};
 ghost use Rattle.search_laws.specs.Pieces.{curried, composed};
 ghost use Rattle.search_left.specs.Last.{Last, LastFrom, nested};
 
-use context::Record;
+use context::{Record, STRETCH};
+use formula::Kind;
 use identifier_generator::GENERATED;
-use meter::{Answer, Limits, Next, Sequent, State};
+use meter::{Answer, Found, Limit, Limits, Missed, Next, Sequent, State};
+use proof_term::Node;
 
 // The end of a rule: its last node, which is found.
-pub fn close(
-    terms: &mut [u16],
-    limits: Limits,
-    state: State,
-    kind: usize,
-    a: usize,
-    b: usize,
-    c: usize,
-    d: usize,
-    e: usize,
-) -> Answer
+pub fn close(terms: &mut [u16], limits: Limits, state: State, node: Node) -> Answer
     requires { (limits.terms ≤ 16384) × (state.formulas ≤ 16384) }
-    ensures { (p : Piece) → six_of p ≡ kind ∷ a ∷ b ∷ c ∷ d ∷ e ∷ [] → Closes limits terms.old state p result
-        terms.new }
+    ensures { Closes limits terms.old state (piece_of node) result terms.new }
 {
-    if limits.terms <= state.terms {
-        return Answer::Short(meter::TERMS, state);
-    }
     let at = state.terms;
-    proof_term::put(terms, at, kind, a, b, c, d, e);
-    Answer::Found(at, meter::spend(state, state.indices, 0, 1))
+    if limits.terms <= at {
+        return Err(Missed::Short(Limit::Terms, state));
+    }
+    proof_term::put(terms, at, node);
+    Ok(Found {
+        node: at,
+        state: state.spend(state.indices, 0, 1),
+    })
 }
 
 // Word n becomes the implication from a to b.
@@ -47,7 +41,17 @@ pub fn arrow(words: &mut [u32], n: usize, a: usize, b: usize)
     requires { (a < 16384) × (b < 16384) }
     ensures { words.new ≡ set words.old n (word (is_imp a b)) }
 {
-    formula::store(words, n, formula::pack(formula::IMPL, a, b));
+    formula::store(words, n, formula::pack(Kind::Impl, a, b));
+}
+
+// Nodes one after the other, from at on.
+fn put_all(terms: &mut [u16], at: usize, nodes: &[Node])
+    requires { at + length nodes.now ≤ 65536 }
+    ensures { terms.new ≡ put_nodes terms.old at (map piece_of nodes.now) }
+{
+    for (k, node) in nodes.iter().enumerate() {
+        proof_term::put(terms, at + k, *node);
+    }
 }
 
 // (as (fn a (fn b (app x (pair a b)))) formula): seven nodes from at on.
@@ -57,46 +61,32 @@ fn curried(terms: &mut [u16], at: usize, a: usize, b: usize, x: usize, formula: 
 {
     let first = GENERATED + a;
     let second = GENERATED + b;
-    let n1 = at + 1;
-    let n2 = at + 2;
-    let n3 = at + 3;
-    let n4 = at + 4;
-    let n5 = at + 5;
-    let n6 = at + 6;
-    proof_term::put(terms, at, proof_term::IDENT, first, 0, 0, 0, 0);
-    proof_term::put(terms, n1, proof_term::IDENT, second, 0, 0, 0, 0);
-    proof_term::put(terms, n2, proof_term::PAIR, at, n1, 0, 0, 0);
-    proof_term::put(terms, n3, proof_term::APPLICATION, x, n2, 0, 0, 0);
-    proof_term::put(terms, n4, proof_term::FUNCTION, second, n3, 0, 0, 0);
-    proof_term::put(terms, n5, proof_term::FUNCTION, first, n4, 0, 0, 0);
-    proof_term::put(terms, n6, proof_term::ASCRIPTION, n5, formula, 0, 0, 0);
+    let nodes = [
+        Node::Ident(first),
+        Node::Ident(second),
+        Node::Pair(at, at + 1),
+        Node::Application(x, at + 2),
+        Node::Function(second, at + 3),
+        Node::Function(first, at + 4),
+        Node::Ascription(at + 5, formula),
+    ];
+    put_all(terms, at, &nodes);
 }
 
-// (as (fn a (app x ARG)) formula): five nodes from at on. ARG is the node of these numbers, inl, inr or (fn b a) of the Ident of a.
-pub fn composed(
-    terms: &mut [u16],
-    at: usize,
-    a: usize,
-    kind: usize,
-    c: usize,
-    d: usize,
-    x: usize,
-    formula: usize,
-)
+// (as (fn a (app x ARG)) formula): five nodes from at on. ARG is inl, inr or (fn b a) of the Ident of a.
+pub fn composed(terms: &mut [u16], at: usize, a: usize, arg: Node, x: usize, formula: usize)
     requires { (at ≤ 16384) × (a ≤ 4096) }
-    ensures { (p : Piece) → six_of p ≡ kind ∷ c ∷ d ∷ 0 ∷ 0 ∷ 0 ∷ [] →
-        terms.new ≡ put_nodes terms.old at (composed at a p x formula) }
+    ensures { terms.new ≡ put_nodes terms.old at (composed at a (piece_of arg) x formula) }
 {
     let name = GENERATED + a;
-    let n1 = at + 1;
-    let n2 = at + 2;
-    let n3 = at + 3;
-    let n4 = at + 4;
-    proof_term::put(terms, at, proof_term::IDENT, name, 0, 0, 0, 0);
-    proof_term::put(terms, n1, kind, c, d, 0, 0, 0);
-    proof_term::put(terms, n2, proof_term::APPLICATION, x, n1, 0, 0, 0);
-    proof_term::put(terms, n3, proof_term::FUNCTION, name, n2, 0, 0, 0);
-    proof_term::put(terms, n4, proof_term::ASCRIPTION, n3, formula, 0, 0, 0);
+    let nodes = [
+        Node::Ident(name),
+        arg,
+        Node::Application(x, at + 1),
+        Node::Function(name, at + 2),
+        Node::Ascription(at + 3, formula),
+    ];
+    put_all(terms, at, &nodes);
 }
 
 // Whether unordered record i is an implication from an implication.
@@ -104,11 +94,9 @@ pub fn nested(words: &[u32], work: &[Record], sequent: Sequent, i: usize) -> boo
     requires { (sequent.level < 256) × (i < 256) }
     ensures { result ≡ nested words.now work.now sequent.level i }
 {
-    let a = context::formula_at(work, sequent.level * context::STRETCH + i);
-    if formula::kind(words, a) != formula::IMPL {
-        return false;
-    }
-    formula::kind(words, formula::left(words, a)) == formula::IMPL
+    let a = context::formula_at(work, sequent.level * STRETCH + i);
+    let from = formula::left_at(words, a);
+    formula::kind_at(words, a) == Kind::Impl && formula::kind_at(words, from) == Kind::Impl
 }
 
 // A∧B: both halves are pushed in its place, the second last.
@@ -121,31 +109,27 @@ fn left_and(
     sequent: Sequent,
     a: usize,
     x: usize,
-) -> Next
+) -> Result<Next, Missed>
     requires represented { Rep limits (lent words.now terms.old work.old) state sequent }
     requires last { Last (lent words.now terms.old work.old) sequent 3 a x }
     ensures { (taken : List (List ℕ)) → Turns limits taken (lent words.now terms.old work.old)
         state sequent by_left result (lent words.now terms.new work.new) }
 {
     let at = state.terms;
-    let n = meter::lack(
+    state.charge(
         limits,
         state.indices,
         state.formulas,
         at + 2,
         sequent.unordered + sequent.ordered + 1,
         sequent.level,
-    );
-    if n != 0 {
-        return Next::End(Answer::Short(n, state));
-    }
+    )?;
     let second = at + 1;
-    proof_term::put(terms, at, proof_term::PROJECT_FST, x, 0, 0, 0, 0);
-    proof_term::put(terms, second, proof_term::PROJECT_SND, x, 0, 0, 0, 0);
+    put_all(terms, at, &[Node::ProjectFst(x), Node::ProjectSnd(x)]);
     let rest = context::pop(sequent);
-    let q1 = context::push(work, rest, formula::left(words, a), at);
-    let q2 = context::push(work, q1, formula::right(words, a), second);
-    Next::Go(meter::spend(state, state.indices, 0, 2), q2)
+    let q1 = context::push(work, rest, formula::left_at(words, a), at);
+    let q2 = context::push(work, q1, formula::right_at(words, a), second);
+    Ok(Next::Go(state.spend(state.indices, 0, 2), q2))
 }
 
 // True→C: Unit and Application, and C is pushed in its place.
@@ -158,30 +142,26 @@ fn true_impl(
     sequent: Sequent,
     a: usize,
     x: usize,
-) -> Next
+) -> Result<Next, Missed>
     requires represented { Rep limits (lent words.now terms.old work.old) state sequent }
     requires last { LastFrom (lent words.now terms.old work.old) sequent 0 a x }
     ensures { (taken : List (List ℕ)) → Turns limits taken (lent words.now terms.old work.old)
         state sequent by_left result (lent words.now terms.new work.new) }
 {
     let at = state.terms;
-    let n = meter::lack(
+    state.charge(
         limits,
         state.indices,
         state.formulas,
         at + 2,
         sequent.unordered + sequent.ordered,
         sequent.level,
-    );
-    if n != 0 {
-        return Next::End(Answer::Short(n, state));
-    }
+    )?;
     let second = at + 1;
-    proof_term::put(terms, at, proof_term::UNIT, 0, 0, 0, 0, 0);
-    proof_term::put(terms, second, proof_term::APPLICATION, x, at, 0, 0, 0);
+    put_all(terms, at, &[Node::Unit, Node::Application(x, at)]);
     let rest = context::pop(sequent);
-    let q1 = context::push(work, rest, formula::right(words, a), second);
-    Next::Go(meter::spend(state, state.indices, 0, 2), q1)
+    let q1 = context::push(work, rest, formula::right_at(words, a), second);
+    Ok(Next::Go(state.spend(state.indices, 0, 2), q1))
 }
 
 // (A∧B)→C: A→(B→C) is pushed in its place.
@@ -195,7 +175,7 @@ fn and_impl(
     sequent: Sequent,
     a: usize,
     x: usize,
-) -> Next
+) -> Result<Next, Missed>
     requires represented { Rep limits (lent words.old terms.old work.old) state sequent }
     requires last { LastFrom (lent words.old terms.old work.old) sequent 3 a x }
     requires few { length (names_in names.now) ≤ 64 }
@@ -209,30 +189,27 @@ fn and_impl(
     let first = identifier_generator::fresh(names, state.indices);
     let second = identifier_generator::fresh(names, first + 1);
     let used = second + 1;
-    let n = meter::lack(
+    state.charge(
         limits,
         used,
         inner + 2,
         at + 7,
         sequent.unordered + sequent.ordered,
         sequent.level,
-    );
-    if n != 0 {
-        return Next::End(Answer::Short(n, state));
-    }
-    let i = formula::left(words, a);
-    let l = formula::left(words, i);
+    )?;
+    let i = formula::left_at(words, a);
+    let l = formula::left_at(words, i);
     arrow(
         words,
         inner,
-        formula::right(words, i),
-        formula::right(words, a),
+        formula::right_at(words, i),
+        formula::right_at(words, a),
     );
     arrow(words, outer, l, inner);
     curried(terms, at, first, second, x, outer);
     let rest = context::pop(sequent);
     let q1 = context::push(work, rest, outer, last);
-    Next::Go(meter::spend(state, used, 2, 7), q1)
+    Ok(Next::Go(state.spend(used, 2, 7), q1))
 }
 
 // (A∨B)→C: A→C and then B→C are pushed in its place.
@@ -246,7 +223,7 @@ fn or_impl(
     sequent: Sequent,
     a: usize,
     x: usize,
-) -> Next
+) -> Result<Next, Missed>
     requires represented { Rep limits (lent words.old terms.old work.old) state sequent }
     requires last { LastFrom (lent words.old terms.old work.old) sequent 4 a x }
     requires few { length (names_in names.now) ≤ 64 }
@@ -262,28 +239,25 @@ fn or_impl(
     let first = identifier_generator::fresh(names, state.indices);
     let second = identifier_generator::fresh(names, first + 1);
     let used = second + 1;
-    let n = meter::lack(
+    state.charge(
         limits,
         used,
         one + 2,
         at + 10,
         sequent.unordered + sequent.ordered + 1,
         sequent.level,
-    );
-    if n != 0 {
-        return Next::End(Answer::Short(n, state));
-    }
-    let i = formula::left(words, a);
-    let c = formula::right(words, a);
-    let r = formula::right(words, i);
-    arrow(words, one, formula::left(words, i), c);
+    )?;
+    let i = formula::left_at(words, a);
+    let c = formula::right_at(words, a);
+    let r = formula::right_at(words, i);
+    arrow(words, one, formula::left_at(words, i), c);
     arrow(words, two, r, c);
-    composed(terms, at, first, proof_term::OR_LEFT, at, 0, x, one);
-    composed(terms, half, second, proof_term::OR_RIGHT, half, 0, x, two);
+    composed(terms, at, first, Node::OrLeft(at), x, one);
+    composed(terms, half, second, Node::OrRight(half), x, two);
     let rest = context::pop(sequent);
     let q1 = context::push(work, rest, one, middle);
     let q2 = context::push(work, q1, two, last);
-    Next::Go(meter::spend(state, used, 2, 10), q2)
+    Ok(Next::Go(state.spend(used, 2, 10), q2))
 }
 
 // An implication, by what it goes from: False→C is dropped, leaf→C and (A→B)→C wait in the unordered context.
@@ -297,29 +271,20 @@ fn left_impl(
     sequent: Sequent,
     a: usize,
     x: usize,
-) -> Next
+) -> Result<Next, Missed>
     requires represented { Rep limits (lent words.old terms.old work.old) state sequent }
     requires last { Last (lent words.old terms.old work.old) sequent 5 a x }
     requires few { length (names_in names.now) ≤ 64 }
     ensures { Turns limits (skipped (names_in names.now)) (lent words.old terms.old
         work.old) state sequent by_left result (lent words.new terms.new work.new) }
 {
-    let g = formula::kind(words, formula::left(words, a));
-    if g == formula::TRUE {
-        return true_impl(words, terms, work, limits, state, sequent, a, x);
+    match formula::kind_at(words, formula::left_at(words, a)) {
+        Kind::True => true_impl(words, terms, work, limits, state, sequent, a, x),
+        Kind::False => Ok(Next::Go(state, context::pop(sequent))),
+        Kind::And => and_impl(words, terms, work, names, limits, state, sequent, a, x),
+        Kind::Or => or_impl(words, terms, work, names, limits, state, sequent, a, x),
+        _ => Ok(Next::Go(state, context::append(work, context::pop(sequent), a, x))),
     }
-    if g == formula::AND {
-        return and_impl(words, terms, work, names, limits, state, sequent, a, x);
-    }
-    if g == formula::OR {
-        return or_impl(words, terms, work, names, limits, state, sequent, a, x);
-    }
-    let rest = context::pop(sequent);
-    if g == formula::FALSE {
-        return Next::Go(state, rest);
-    }
-    let q1 = context::append(work, rest, a, x);
-    Next::Go(state, q1)
 }
 
 // Left on the last ordered record, which there is; a disjunction is left to the caller, who asks its two premises.
@@ -331,7 +296,7 @@ fn left_rule(
     limits: Limits,
     state: State,
     sequent: Sequent,
-) -> Next
+) -> Result<Next, Missed>
     requires represented { Rep limits (lent words.old terms.old work.old) state sequent }
     requires some { 0 < sequent.ordered }
     requires few { length (names_in names.now) ≤ 64 }
@@ -341,25 +306,14 @@ fn left_rule(
     let at = context::top(sequent);
     let a = context::formula_at(work, at);
     let x = context::term_at(work, at);
-    let g = formula::kind(words, a);
-    if g == formula::FALSE {
-        return Next::End(close(terms, limits, state, proof_term::ABORT, x, 0, 0, 0, 0));
+    match formula::kind_at(words, a) {
+        Kind::True => Ok(Next::Go(state, context::pop(sequent))),
+        Kind::False => Ok(Next::End(close(terms, limits, state, Node::Abort(x))?)),
+        Kind::And => left_and(words, terms, work, limits, state, sequent, a, x),
+        Kind::Or => Ok(Next::Split(state, sequent)),
+        Kind::Impl => left_impl(words, terms, work, names, limits, state, sequent, a, x),
+        _ => Ok(Next::Go(state, context::append(work, context::pop(sequent), a, x))),
     }
-    if g == formula::AND {
-        return left_and(words, terms, work, limits, state, sequent, a, x);
-    }
-    if g == formula::OR {
-        return Next::Split(state, sequent);
-    }
-    if g == formula::IMPL {
-        return left_impl(words, terms, work, names, limits, state, sequent, a, x);
-    }
-    let rest = context::pop(sequent);
-    if g == formula::TRUE {
-        return Next::Go(state, rest);
-    }
-    let q1 = context::append(work, rest, a, x);
-    Next::Go(state, q1)
 }
 
 // One turn of left: its entry is counted, then its rule; where nothing is ordered, search's entry and its rules 1 and 2.
@@ -371,7 +325,7 @@ pub fn turn(
     limits: Limits,
     state: State,
     sequent: Sequent,
-) -> Next
+) -> Result<Next, Missed>
     requires represented { Rep limits (lent words.old terms.old work.old) state sequent }
     requires few { length (names_in names.now) ≤ 64 }
     ensures { Turned limits (skipped (names_in names.now))
@@ -379,14 +333,14 @@ pub fn turn(
         (lent words.new terms.new work.new) }
 {
     if limits.steps <= state.steps {
-        return Next::End(Answer::Short(meter::STEPS, state));
+        return Err(Missed::Short(Limit::Steps, state));
     }
-    let s = meter::counted(state);
+    let s = state.counted();
     if 0 < sequent.ordered {
         return left_rule(words, terms, work, names, limits, s, sequent);
     }
     if limits.steps <= s.steps {
-        return Next::End(Answer::Short(meter::STEPS, s));
+        return Err(Missed::Short(Limit::Steps, s));
     }
-    search_leaves::settle(words, terms, work, limits, meter::counted(s), sequent)
+    search_leaves::settle(words, terms, work, limits, s.counted(), sequent)
 }

@@ -4,9 +4,9 @@ use Rattle.search_laws.specs.Closing.{closes_short}
 use native.Mathlib.Omega.{arith}
 use Rattle.search_left.proofs.close.Goals as goal
 
-pub returns-then-limits-state : goal.returns-then-limits-state
-returns-then-limits-state c =
-    λ p e. closes_short (omega arith)
+pub returns-then-limits-at : goal.returns-then-limits-at
+returns-then-limits-at c =
+    closes_short (omega arith)
 
 pub returns : goal.returns
 returns c =

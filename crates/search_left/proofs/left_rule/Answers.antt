@@ -1,11 +1,10 @@
 -- `left_rule` meets its contract: each kind of the last formula by its law. Assumes nothing.
 use native.Mathlib.Omega.{arith}
-use mathlib.Core.Path.{refl}
-use Rattle.theory.specs.Term.{abort, six_of}
 use Rattle.theory.specs.NameText.{names_in}
 use Rattle.theory.specs.Names.{skipped}
+use Rattle.meter.proofs.Laws.{carried}
 use Rattle.search_left.proofs.Charged.{push_room}
-use Rattle.search_left.proofs.LeftTurns.{last_of, drop_on, abort_on, split_on, settle_on}
+use Rattle.search_left.proofs.LeftTurns.{last_of, last_is, drop_on, abort_on, abort_missed, split_on, settle_on}
 use Rattle.search_left.proofs.left_rule.Goals as goal
 
 pub top-at-requires : goal.top-at-requires
@@ -13,63 +12,72 @@ top-at-requires c =
     let r = c.requires.represented in
     (omega (arith, r.seats.level_in, r.rooms.most_levels), omega (arith, r.seats.fits))
 
+pub pop-requires : goal.pop-requires
+pop-requires c =
+    c.requires.some
+
+pub returns-in-True : goal.returns-in-True
+returns-in-True c =
+    let last = last_of c.requires.some c.top-at.ensures c.formula_at-a.ensures c.term_at-x.ensures in
+    drop_on (skipped (names_in c.args.names.now)) c.requires.represented (last_is last c.kind_at.ensures c.in-True.is) c.pop.ensures
+
 pub close-requires : goal.close-requires
 close-requires c =
     let r = c.requires.represented in
     (r.rooms.most_terms, omega (arith, r.within.in_formulas, r.rooms.most_formulas))
 
-pub returns-then-g-eq-FALSE : goal.returns-then-g-eq-FALSE
-unfolding six_of
-returns-then-g-eq-FALSE c =
+pub returns-in_err-close-in-False : goal.returns-in_err-close-in-False
+returns-in_err-close-in-False c =
+    let last = last_of c.requires.some c.top-at.ensures c.formula_at-a.ensures c.term_at-x.ensures in
+    let e = carried c.from_residual.ensures in
+    rw e (abort_missed (skipped (names_in c.args.names.now)) c.requires.represented
+    (last_is last c.kind_at.ensures c.in-False.is) c.close.ensures c.in_err-close-in-False.was)
+
+pub returns-in_ok-close-in-False : goal.returns-in_ok-close-in-False
+returns-in_ok-close-in-False c =
+    let last = last_of c.requires.some c.top-at.ensures c.formula_at-a.ensures c.term_at-x.ensures in
     abort_on (skipped (names_in c.args.names.now)) c.requires.represented
-    (last_of c.requires.some c.top-at.ensures c.formula_at-a.ensures c.term_at-x.ensures c.kind-g.ensures c.if-g-eq-FALSE.true)
-    (c.close.ensures (abort _) refl)
+    (last_is last c.kind_at.ensures c.in-False.is) c.close.ensures c.in_ok-close-in-False.was
 
 pub left_and-requires : goal.left_and-requires
 left_and-requires c =
-    record {
-      represented = c.requires.represented;
-      last = (last_of c.requires.some c.top-at.ensures c.formula_at-a.ensures c.term_at-x.ensures c.kind-g.ensures c.if-g-eq-AND.true);
-    }
+    let last = last_of c.requires.some c.top-at.ensures c.formula_at-a.ensures c.term_at-x.ensures in
+    record { represented = c.requires.represented; last = last_is last c.kind_at.ensures c.in-And.is }
 
-pub returns-then-g-eq-AND : goal.returns-then-g-eq-AND
-returns-then-g-eq-AND c =
+pub returns-in-And : goal.returns-in-And
+returns-in-And c =
     c.left_and.ensures (skipped (names_in c.args.names.now))
 
-pub returns-then-g-eq-OR : goal.returns-then-g-eq-OR
-returns-then-g-eq-OR c =
-    split_on (skipped (names_in c.args.names.now)) c.requires.represented
-    (last_of c.requires.some c.top-at.ensures c.formula_at-a.ensures c.term_at-x.ensures c.kind-g.ensures c.if-g-eq-OR.true)
+pub returns-in-Or : goal.returns-in-Or
+returns-in-Or c =
+    let last = last_of c.requires.some c.top-at.ensures c.formula_at-a.ensures c.term_at-x.ensures in
+    split_on (skipped (names_in c.args.names.now)) c.requires.represented (last_is last c.kind_at.ensures c.in-Or.is)
 
 pub left_impl-requires : goal.left_impl-requires
 left_impl-requires c =
+    let last = last_of c.requires.some c.top-at.ensures c.formula_at-a.ensures c.term_at-x.ensures in
     record {
       represented = c.requires.represented;
-      last = (last_of c.requires.some c.top-at.ensures c.formula_at-a.ensures c.term_at-x.ensures c.kind-g.ensures c.if-g-eq-IMPL.true);
+      last = last_is last c.kind_at.ensures c.in-Impl.is;
       few = c.requires.few;
     }
 
-pub returns-then-g-eq-IMPL : goal.returns-then-g-eq-IMPL
-returns-then-g-eq-IMPL c =
+pub returns-in-Impl : goal.returns-in-Impl
+returns-in-Impl c =
     c.left_impl.ensures
 
-pub pop-rest-requires : goal.pop-rest-requires
-pop-rest-requires c =
+pub pop-requires-in_default : goal.pop-requires-in_default
+pop-requires-in_default c =
     c.requires.some
 
-pub returns-then-g-eq-TRUE : goal.returns-then-g-eq-TRUE
-returns-then-g-eq-TRUE c =
-    drop_on (skipped (names_in c.args.names.now)) c.requires.represented
-    (last_of c.requires.some c.top-at.ensures c.formula_at-a.ensures c.term_at-x.ensures c.kind-g.ensures c.if-g-eq-TRUE.true)
-    c.pop-rest.ensures
+pub append-requires : goal.append-requires
+append-requires c =
+    push_room c.requires.represented c.requires.some c.pop-in_default.ensures
 
-pub append-q1-requires : goal.append-q1-requires
-append-q1-requires c =
-    push_room c.requires.represented c.requires.some c.pop-rest.ensures
-
-pub returns : goal.returns
-returns c =
+pub returns-in_default : goal.returns-in_default
+returns-in_default c =
+    let last = last_of c.requires.some c.top-at.ensures c.formula_at-a.ensures c.term_at-x.ensures in
+    let d = c.in_default in
     settle_on (skipped (names_in c.args.names.now)) c.requires.represented
-    c.pop-rest.ensures c.append-q1.ensures.work c.append-q1.ensures.result
-    (last_of c.requires.some c.top-at.ensures c.formula_at-a.ensures c.term_at-x.ensures c.kind-g.ensures refl)
-    c.if-g-eq-TRUE.false c.if-g-eq-FALSE.false c.if-g-eq-AND.false c.if-g-eq-OR.false c.if-g-eq-IMPL.false
+    c.pop-in_default.ensures c.append.ensures.work c.append.ensures.result
+    last c.kind_at.ensures d.not-True d.not-False d.not-And d.not-Or d.not-Impl

@@ -1,14 +1,16 @@
 -- `nested` meets its contract: both kinds are tested. Assumes nothing.
+use Rattle.std.proofs.Common.{rules}
 use Rattle.search_left.proofs.Nests.{nested_other, nested_from}
 use Rattle.search_left.proofs.nested.Goals as goal
 
-pub returns-then-kind-ne-IMPL : goal.returns-then-kind-ne-IMPL
-returns-then-kind-ne-IMPL c =
-    nested_other c.args.words.now c.args.work.now c.args.sequent.level c.args.i c.formula_at-a.ensures
-    c.kind.ensures c.if-kind-ne-IMPL.true
+pub returns-then-eq : goal.returns-then-eq
+returns-then-eq c =
+    let a = c.args in
+    nested_from a.words.now a.work.now a.sequent.level a.i c.formula_at-a.ensures c.left_at-from.ensures c.kind_at.ensures
+    (search rules) c.if-eq.true c.kind_at-then-eq.ensures (search rules)
 
-pub returns : goal.returns
-returns c =
-    nested_from c.args.words.now c.args.work.now c.args.sequent.level c.args.i
-    c.formula_at-a.ensures c.kind.ensures
-    c.if-kind-ne-IMPL.false c.left.ensures c.kind-2.ensures
+pub returns-else-eq : goal.returns-else-eq
+returns-else-eq c =
+    let a = c.args in
+    nested_other a.words.now a.work.now a.sequent.level a.i c.formula_at-a.ensures c.left_at-from.ensures c.kind_at.ensures
+    (search rules) c.if-eq.false

@@ -1,11 +1,10 @@
 -- `or_impl` meets its contract: a charge that passes a limit, or A→C and B→C in the place of (A∨B)→C. Assumes nothing.
 use native.Mathlib.Omega.{arith}
-use Prim.Native.Nat.{◌+◌}
 use mathlib.Core.Path.{refl}
-use Rattle.theory.specs.Term.{inl, inr, six_of}
 use Rattle.theory.specs.NameText.{names_in}
 use Rattle.theory.specs.Names.{skipped}
-use Rattle.search_left.proofs.Charged.{push_room, push_room_more}
+use Rattle.meter.proofs.Laws.{carried}
+use Rattle.search_left.proofs.Charged.{tested_ok, tested_err, push_room, push_room_more}
 use Rattle.search_left.proofs.LeftMakes.{first_near, second_near, sides_short, sides_room, sides_in, sides_on}
 use Rattle.search_left.proofs.or_impl.Goals as goal
 
@@ -21,38 +20,39 @@ pub overflow_add-used : goal.overflow_add-used
 overflow_add-used c =
     omega (arith, second_near c.requires.represented c.args.names.now c.requires.few c.fresh-first.ensures c.fresh-second.ensures)
 
-pub returns-then-n-ne0 : goal.returns-then-n-ne0
-returns-then-n-ne0 c =
-    sides_short (skipped (names_in c.args.names.now)) c.requires.represented c.fresh-first.ensures
+pub returns-in_err-charge : goal.returns-in_err-charge
+returns-in_err-charge c =
+    let e = carried c.from_residual.ensures in
+    rw e (sides_short (skipped (names_in c.args.names.now)) c.requires.represented c.fresh-first.ensures
     c.fresh-second.ensures c.requires.last
-    c.lack-n.ensures c.if-n-ne0.true
+    (tested_err c.charge.ensures c.in_err-charge.was))
 
 pub arrow-requires : goal.arrow-requires
 arrow-requires c =
     let r = sides_in (skipped (names_in c.args.names.now)) c.requires.represented
     c.fresh-first.ensures c.fresh-second.ensures c.requires.last
-    c.lack-n.ensures c.if-n-ne0.false c.left-i.ensures c.right-c.ensures c.right-r.ensures c.left.ensures in
+    (tested_ok c.charge.ensures c.in_ok-charge.was) c.left_at-i.ensures c.right_at-c.ensures c.right_at-r.ensures c.left_at.ensures in
     (r.0, r.2)
 
 pub arrow-requires-2 : goal.arrow-requires-2
 arrow-requires-2 c =
     let r = sides_in (skipped (names_in c.args.names.now)) c.requires.represented
     c.fresh-first.ensures c.fresh-second.ensures c.requires.last
-    c.lack-n.ensures c.if-n-ne0.false c.left-i.ensures c.right-c.ensures c.right-r.ensures c.left.ensures in
+    (tested_ok c.charge.ensures c.in_ok-charge.was) c.left_at-i.ensures c.right_at-c.ensures c.right_at-r.ensures c.left_at.ensures in
     (r.1, r.2)
 
 pub composed-requires : goal.composed-requires
 composed-requires c =
     let o = sides_room (skipped (names_in c.args.names.now)) c.requires.represented c.fresh-first.ensures
     c.fresh-second.ensures c.requires.last
-    c.lack-n.ensures c.if-n-ne0.false in
+    (tested_ok c.charge.ensures c.in_ok-charge.was) in
     (omega arith, o.2)
 
 pub composed-requires-2 : goal.composed-requires-2
 composed-requires-2 c =
     let o = sides_room (skipped (names_in c.args.names.now)) c.requires.represented c.fresh-first.ensures
     c.fresh-second.ensures c.requires.last
-    c.lack-n.ensures c.if-n-ne0.false in
+    (tested_ok c.charge.ensures c.in_ok-charge.was) in
     (omega arith, o.3)
 
 pub pop-rest-requires : goal.pop-rest-requires
@@ -67,24 +67,22 @@ pub push-q2-requires : goal.push-q2-requires
 push-q2-requires c =
     let st = c.args.state in
     let q = c.args.sequent in
-    push_room_more c.requires.represented (c.fresh-second.result + 1) (st.formulas + 2) (st.terms + 10) (q.unordered + q.ordered + 1)
-    c.lack-n.ensures c.if-n-ne0.false refl c.requires.last.last.some c.pop-rest.ensures c.push-q1.ensures.result
+    push_room_more c.requires.represented (tested_ok c.charge.ensures c.in_ok-charge.was) refl c.requires.last.last.some c.pop-rest.ensures c.push-q1.ensures.result
 
 pub spend-requires : goal.spend-requires
 spend-requires c =
     let o = sides_room (skipped (names_in c.args.names.now)) c.requires.represented c.fresh-first.ensures
     c.fresh-second.ensures c.requires.last
-    c.lack-n.ensures c.if-n-ne0.false in
+    (tested_ok c.charge.ensures c.in_ok-charge.was) in
     (o.0, o.1)
 
 pub returns : goal.returns
-unfolding six_of
 returns c =
     sides_on (skipped (names_in c.args.names.now))
     c.requires.represented c.fresh-first.ensures
     c.fresh-second.ensures c.requires.last
-    c.lack-n.ensures c.if-n-ne0.false c.left-i.ensures c.right-c.ensures c.right-r.ensures c.left.ensures
+    (tested_ok c.charge.ensures c.in_ok-charge.was) c.left_at-i.ensures c.right_at-c.ensures c.right_at-r.ensures c.left_at.ensures
     c.arrow.ensures c.arrow-2.ensures
-    (c.composed.ensures (inl _) refl) (c.composed-2.ensures (inr _) refl) c.pop-rest.ensures c.push-q1.ensures.work
+    c.composed.ensures c.composed-2.ensures c.pop-rest.ensures c.push-q1.ensures.work
     c.push-q1.ensures.result
     c.push-q2.ensures.work c.push-q2.ensures.result c.spend.ensures
