@@ -10,7 +10,7 @@ use lib.Seq.{length-take-le, get_or-take}
 use Rattle.theory.specs.Term.{Node, NodesFrom, node, assumed, term}
 use Rattle.theory.specs.NameText.{names_in, Written}
 use Rattle.theory.specs.Layout.{node_width, piece_at, nodes_from, nodes_in}
-use Rattle.theory.specs.Refusal.{Refused, formula_sizes, term_sizes, node_sizes}
+use Rattle.theory.specs.Refusal.{Refused, fault_number, formula_sizes, term_sizes, node_sizes}
 use Rattle.theory.specs.Writer.{Draft, writer_refusal, drafted, text_fitted, not_written, written}
 use Rattle.theory.proofs.Passing.{formula_sizes_lem}
 use Rattle.theory.proofs.Tests.{and_left, and_right}
@@ -18,7 +18,6 @@ use Rattle.theory.proofs.Words.{decodes}
 use Rattle.theory.proofs.WriterPass.{Drafted, draft_passes}
 use Rattle.identifier_generator.specs.Handed.{Hands}
 use Rattle.house_text.specs.Pieces.{book, nodes, Given}
-use Rattle.refusal.specs.Table.{number_in, place_in}
 use Rattle.house_text.proofs.WholeText.{text_front}
 
 -- the nodes of a front that holds them all
@@ -50,11 +49,10 @@ module _ (x : Draft) where
   ]
 
   -- a refused draft
-  pub refused_hands : (o : Option Refused) → o ≡ writer_refusal x → (number_in o ≡ 0 → ⊥) →
-      Hands (written x) 0 (number_in o) x.buffer × (place_in o ≡ (written x).place)
-  unfolding written not_written number_in place_in
-  refused_hands none e n = absurd (n refl)
-  refused_hands (some r) e n =
+  pub refused_hands : (r : Refused) → some r ≡ writer_refusal x →
+      Hands (written x) 0 (fault_number r.fault) x.buffer × (r.place ≡ (written x).place)
+  unfolding written not_written
+  refused_hands r e =
       let as_refused : by_refusal (some r) ≡ written x = ap by_refusal e in (
         record {
           size_is = ap (λ (w : Written). length w.part) as_refused;

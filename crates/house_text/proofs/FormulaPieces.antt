@@ -1,11 +1,14 @@
 -- The piece of a formula by its word's kind. Assumes nothing.
 use Prim.Native.Nat.{ℕ, zero, suc, ◌+◌, ◌-◌, ◌≤◌, ◌<◌}
 use mathlib.Core.Path.{◌≡◌, refl, sym, ap, ap₂, subst, ◌∙◌}
+use mathlib.Core.Bool.{true, false}
+use mathlib.Core.Logic.{◌⊎◌, inl, inr, ⊎_elim}
 use mathlib.Core.Option.{Option, none, some}
 use mathlib.Core.List.{List, [], ◌∷◌, ◌++◌}
 use native.Mathlib.Omega.{arith}
 use native.Mathlib.Nat.{zero-add}
-use borrow.Author.Tests.{le-leb, lt-leb, ne_eqb}
+use borrow.Author.Tests.{lt-leb}
+use lib.Dec.{eqb}
 use lib.ListN.{length, get_or, length-map, get_or-map}
 use Rattle.theory.specs.Form.{Form, top, bot, leaf, and, or, imp}
 use Rattle.theory.specs.Form.{Shape, is_top, is_bot, is_leaf, Below, kind_of, left_of, right_of, shape_of, shape, form, look}
@@ -13,36 +16,75 @@ use Rattle.theory.specs.Text.{bytes, decimal, leaf_text, form_text}
 use Rattle.theory.specs.Writer.{larger, form_depth}
 use Rattle.theory.proofs.Forms.{good_from}
 use Rattle.theory.proofs.TextByNode.{shape_text, shape_depth, text_by_shape, depth_by_shape}
+use Rattle.formula.specs.declared.Kind.{Kind}
+use Rattle.formula.specs.declared.Kind.TheVariants.{True, False, Atom, And, Or, Impl, ForAll, Exists, Unknown}
+use Rattle.formula.specs.Kinds.{kind_named}
+use Rattle.formula.proofs.KindLaws.{is_kind}
 use Rattle.house_text.specs.Laid.{joined}
-use Rattle.house_text.specs.Pieces.{up_to, book, GoodWords, form_piece, opening}
+use Rattle.house_text.specs.Pieces.{up_to, book, GoodWords, form_piece}
 use Rattle.house_text.proofs.Levels.{Whole, whole, above, alone, before_it, behind_it, beside, too_deep}
 
--- the letter of a leaf's kind
-pub atom_letter : (k : ℕ) → k ≤ 2 → 112 ∷ [] ≡ leaf_text k
-unfolding leaf_text bytes
-atom_letter k h = rw (le-leb k 2 h, leaf_text)
+-- "(& A B), (| A B), (> A B)": what stands before the halves
+unfoldable pub opening : ℕ → List ℕ
+opening k = elim (eqb k 3) [ true ↦ bytes "(& " | false ↦ elim (eqb k 4) [ true ↦ bytes "(| " | false ↦ bytes "(> " ] ]
 
-pub all_letter : (k : ℕ) → 2 < k → k ≤ 6 → 85 ∷ [] ≡ leaf_text k
-unfolding leaf_text bytes
-all_letter k l h = rw (lt-leb k 2 l, le-leb k 6 h, leaf_text)
+-- an opening that stands before two halves
+abbrev pub Opens : ℕ → List ℕ → Type 0
+Opens k o = (3 ≤ k) × (k ≤ 5) × (o ≡ opening k)
 
-pub exists_letter : (k : ℕ) → 6 < k → 69 ∷ [] ≡ leaf_text k
+opens_at : (m : ℕ) {k : ℕ} {o : List ℕ} → Opens m o → k ≡ m → Opens k o
+opens_at m {k} {o} h e = subst (λ (n : ℕ). Opens n o) (sym e) h
+
+pub opens_and : {k : ℕ} {o : List ℕ} → And ≡ kind_named k → o ≡ bytes "(& " → Opens k o
+unfolding opening
+opens_and e z = opens_at 3 (omega arith, omega arith, z) (is_kind (sym e))
+
+pub opens_or : {k : ℕ} {o : List ℕ} → Or ≡ kind_named k → o ≡ bytes "(| " → Opens k o
+unfolding opening
+opens_or e z = opens_at 4 (omega arith, omega arith, z) (is_kind (sym e))
+
+pub opens_impl : {k : ℕ} {o : List ℕ} → Impl ≡ kind_named k → o ≡ bytes "(> " → Opens k o
+unfolding opening
+opens_impl e z = opens_at 5 (omega arith, omega arith, z) (is_kind (sym e))
+
+-- a leaf's kind, and its letter
+abbrev pub Leaf : ℕ → ℕ → Type 0
+Leaf k letter = ((k ≡ 2) ⊎ (5 < k)) × (letter ∷ [] ≡ leaf_text k)
+
+pub atom_leaf : {k : ℕ} → Atom ≡ kind_named k → Leaf k 112
 unfolding leaf_text bytes
-exists_letter k h =
+atom_leaf {k} e =
+    let n : k ≡ 2 = is_kind (sym e) in
+    (inl n, sym (ap leaf_text n))
+
+pub all_leaf : {k : ℕ} → ForAll ≡ kind_named k → Leaf k 85
+unfolding leaf_text bytes
+all_leaf {k} e =
+    let n : k ≡ 6 = is_kind (sym e) in
+    (inr (omega arith), sym (ap leaf_text n))
+
+unknown_late : (k x : ℕ) → kind_named k ≡ Unknown x → 6 < k
+unfolding kind_named
+unknown_late zero x e = cc
+unknown_late (suc zero) x e = cc
+unknown_late (suc (suc zero)) x e = cc
+unknown_late (suc (suc (suc zero))) x e = cc
+unknown_late (suc (suc (suc (suc zero)))) x e = cc
+unknown_late (suc (suc (suc (suc (suc zero))))) x e = cc
+unknown_late (suc (suc (suc (suc (suc (suc zero)))))) x e = cc
+unknown_late (suc (suc (suc (suc (suc (suc (suc k))))))) x e = omega arith
+
+late_letter : (k : ℕ) → 6 < k → Leaf k 69
+unfolding leaf_text bytes
+late_letter k h =
     let l : 2 < k = omega arith in
-    rw (lt-leb k 2 l, lt-leb k 6 h, leaf_text)
+    (inr (omega arith), rw (lt-leb k 2 l, lt-leb k 6 h, leaf_text))
 
-pub and_opening : (k : ℕ) → k ≡ 3 → bytes "(& " ≡ opening k
-unfolding opening
-and_opening k e = sym (ap opening e)
-
-pub or_opening : (k : ℕ) → k ≡ 4 → bytes "(| " ≡ opening k
-unfolding opening
-or_opening k e = sym (ap opening e)
-
-pub impl_opening : (k : ℕ) → (k ≡ 3 → ⊥) → (k ≡ 4 → ⊥) → bytes "(> " ≡ opening k
-unfolding opening
-impl_opening k p q = rw (ne_eqb k 3 p, ne_eqb k 4 q, opening)
+pub late_leaf : {k : ℕ} {r : Kind} → r ≡ kind_named k → (r ≡ Exists) ⊎ ((x : ℕ) × (r ≡ Unknown x)) → Leaf k 69
+late_leaf {k} e (inl z) =
+    let n : k ≡ 7 = is_kind (sym e ∙ z) in
+    late_letter k (omega arith)
+late_leaf {k} e (inr z) = late_letter k (unknown_late k z.0 (sym e ∙ z.1))
 
 -- every formula has a node
 form_deep : (A : Form) → 0 < form_depth A
@@ -123,11 +165,11 @@ module _ {words : List ℕ} {i k l : ℕ} (w : WordRead words i k l) where
   seen = get_or-map shape words i 0 ∙ sym (ap₂ (λ (m n : ℕ). shape_of m n right) w.kind w.left)
 
   -- the halves have smaller indices
-  pub halves_below : {r : ℕ} → r ≡ right_of (get_or words i 0) → 3 ≤ k → k ≤ 5 → (l < i) × (r < i)
-  halves_below {r} e p q =
+  pub halves_below : {r : ℕ} {o : List ℕ} → r ≡ right_of (get_or words i 0) → Opens k o → (l < i) × (r < i)
+  halves_below {r} e h =
       let down : Below i (look (book words) i) =
       subst (λ (n : ℕ). Below n (look (book words) i)) (zero-add i) (good_from (book words) 0 w.words_good.good i in_book) in
-      subst (λ (n : ℕ). (l < i) × (n < i)) (sym e) ((halves k l right p q).below i (subst (Below i) seen down))
+      subst (λ (n : ℕ). (l < i) × (n < i)) (sym e) ((halves k l right h.0 h.1).below i (subst (Below i) seen down))
 
   module _ (levels : ℕ) (some_left : levels ≡ 0 → ⊥) where
     -- a piece that is that of the word's shape is that of the formula
@@ -155,29 +197,29 @@ module _ {words : List ℕ} {i k l : ℕ} (w : WordRead words i k l) where
         by_shape (subst (λ (y : Shape). Whole (some x) (suc (levels - 1)) (shape_depth (depth_at words) y) (shape_text (text_at words) y))
         (sym e) leaf)
 
-    pub true_piece : k ≡ 0 → some (bytes "T") ≡ form_piece words levels i
+    pub true_piece : True ≡ kind_named k → some (bytes "T") ≡ form_piece words levels i
     unfolding shape_of
-    true_piece e = of_shape is_top (ap (λ (n : ℕ). shape_of n l right) e) refl
+    true_piece e = of_shape is_top (ap (λ (n : ℕ). shape_of n l right) (is_kind (sym e))) refl
 
-    pub false_piece : k ≡ 1 → some (bytes "F") ≡ form_piece words levels i
+    pub false_piece : False ≡ kind_named k → some (bytes "F") ≡ form_piece words levels i
     unfolding shape_of
-    false_piece e = of_shape is_bot (ap (λ (n : ℕ). shape_of n l right) e) refl
+    false_piece e = of_shape is_bot (ap (λ (n : ℕ). shape_of n l right) (is_kind (sym e))) refl
 
-    pub atom_piece : k ≡ 2 → some (leaf_text k ++ decimal l) ≡ form_piece words levels i
-    atom_piece e = of_shape (is_leaf k l) (first_leaf_lem k l right e) refl
+    -- a leaf: the letter of its kind, and its symbol
+    pub leaf_piece : {letter : ℕ} → Leaf k letter → some (letter ∷ decimal l) ≡ form_piece words levels i
+    leaf_piece h =
+        ap (λ (x : List ℕ). some (x ++ decimal l)) h.1
+        ∙ of_shape (is_leaf k l) (⊎_elim (first_leaf_lem k l right) (later_leaf k l right) h.0) refl
 
-    pub leaf_piece : 5 < k → some (leaf_text k ++ decimal l) ≡ form_piece words levels i
-    leaf_piece h = of_shape (is_leaf k l) (later_leaf k l right h) refl
-
-    pub halves_piece : {r : ℕ} → r ≡ right_of (get_or words i 0) → 3 ≤ k → k ≤ 5 →
-        joined (some (opening k)) (joined (form_piece words (levels - 1) l)
+    pub halves_piece : {r : ℕ} {o : List ℕ} → r ≡ right_of (get_or words i 0) → Opens k o →
+        joined (some o) (joined (form_piece words (levels - 1) l)
         (joined (some (bytes " ")) (joined (form_piece words (levels - 1) r) (some (bytes ")"))))) ≡ form_piece words levels i
     unfolding form_piece
-    halves_piece {r} e p q =
-        let h = halves k l right p q in
+    halves_piece {r} {o} e h =
+        let both = halves k l right h.0 h.1 in
         let half : (a : ℕ) → Whole (form_piece words (levels - 1) a) (levels - 1) (depth_at words a) (text_at words a) =
         λ a. whole (levels - 1) (depth_at words a) (text_at words a) in
         let w = above (before_it (opening k) (beside (half l) (before_it (bytes " ") (behind_it (half right) (bytes ")"))))) in
-        ap (λ (n : ℕ). joined (some (opening k)) (joined (form_piece words (levels - 1) l)
-        (joined (some (bytes " ")) (joined (form_piece words (levels - 1) n) (some (bytes ")")))))) e
-        ∙ by_shape (record { is = w.is ∙ ap₂ (up_to (suc (levels - 1))) (sym (h.depth (depth_at words))) (sym (h.text (text_at words))) })
+        ap₂ (λ (x : List ℕ) (n : ℕ). joined (some x) (joined (form_piece words (levels - 1) l)
+        (joined (some (bytes " ")) (joined (form_piece words (levels - 1) n) (some (bytes ")")))))) h.2 e
+        ∙ by_shape (record { is = w.is ∙ ap₂ (up_to (suc (levels - 1))) (sym (both.depth (depth_at words))) (sym (both.text (text_at words))) })

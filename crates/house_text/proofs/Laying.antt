@@ -1,6 +1,7 @@
 -- Laws of laying pieces into a buffer: a byte, nothing, a piece that has no room, and one piece behind another. Assumes nothing.
 use Prim.Native.Nat.{ℕ, ◌+◌, ◌/◌, ◌%◌, ◌≤◌, ◌<◌}
 use mathlib.Core.Path.{◌≡◌, refl, sym, ap, ap₂, subst, ◌∙◌}
+use mathlib.Core.Logic.{◌⊎◌}
 use mathlib.Core.Bool.{Bool, true, false}
 use mathlib.Core.Option.{Option, none, some}
 use mathlib.Core.List.{List, [], ◌∷◌, ◌++◌, append_assoc, append-nil}
@@ -8,11 +9,13 @@ use native.Mathlib.Numerals.{add-one}
 use native.Mathlib.Omega.{arith}
 use borrow.Author.Tests.{le-leb, lt-leb, leb-true, leb-false}
 use lib.Dec.{leb}
-use lib.ListN.{length, get_or, take, set, length-append, length-set}
-use lib.Seq.{length-take-le, take_all, take-suc, take-suc-set}
+use lib.ListN.{length, get_or, take, drop, take-append-drop, length-append}
+use lib.Seq.{length-take-le, take_all, take-suc}
 use Rattle.theory.specs.Text.{decimal}
 use Rattle.theory.proofs.TextWriting.{decimal_one, decimal_last}
-use Rattle.house_text.specs.Laid.{joined, within, front_of, Laid}
+use Rattle.house_text.specs.Laid.{joined, within, front_of, InRoom, Laid}
+use Rattle.std.proofs.Common.{Some, None}
+use Rattle.std.proofs.Common as std
 
 abbrev Text : Type 0
 Text = Option (List ℕ)
@@ -74,8 +77,8 @@ front_within b at = go (leb at (length b)) refl
     go true e = within_room (length b) (take at b) (omega (arith, leb-true at (length b) e, length-take-le at b (leb-true at (length b) e)))
     go false e = refl
 
-pub laid_as : {p q : Text} {b b₁ : List ℕ} {at at₁ : ℕ} → p ≡ q → Laid p b at b₁ at₁ → Laid q b at b₁ at₁
-laid_as {p} {q} {b} {b₁} {at} {at₁} e g = subst (λ (x : Text). Laid x b at b₁ at₁) e g
+pub laid_as : {p q : Text} {b b₁ : List ℕ} {at : ℕ} {r : std.Option ℕ} → p ≡ q → Laid p b at b₁ r → Laid q b at b₁ r
+laid_as {p} {q} {b} {b₁} {at} {r} e g = subst (λ (x : Text). Laid x b at b₁ r) e g
 
 -- nothing stands in front of place 0
 pub joined_front : (b : List ℕ) (p : Text) → joined (front_of b 0) p ≡ p
@@ -84,86 +87,105 @@ joined_front b none = joined_none (front_of b 0)
 joined_front b (some x) = ap (λ (s : Text). joined s (some x)) (front_at b 0 (omega arith))
 
 -- no piece
-pub laid_nothing : (b : List ℕ) (at : ℕ) → Laid (some []) b at b at
+pub laid_nothing : (b : List ℕ) (at : ℕ) → Laid (some []) b at b (Some at)
 laid_nothing b at = record {
   long = refl;
   front = sym (ap (within (length b)) (joined_nil (front_of b at)) ∙ front_within b at);
+  inside = λ h. h;
 }
 
 -- one piece behind another
-pub laid_then : {p q : Text} {b b₁ b₂ : List ℕ} {at at₁ at₂ : ℕ} → Laid p b at b₁ at₁ → Laid q b₁ at₁ b₂ at₂ →
-    Laid (joined p q) b at b₂ at₂
-laid_then {p} {q} {b} {b₁} {b₂} {at} {at₁} {at₂} x y = record {
+pub laid_then : {p q : Text} {b b₁ b₂ : List ℕ} {at at₁ : ℕ} {r : std.Option ℕ} → Laid p b at b₁ (Some at₁) → Laid q b₁ at₁ b₂ r →
+    Laid (joined p q) b at b₂ r
+laid_then {p} {q} {b} {b₁} {b₂} {at} {at₁} {r} x y = record {
   long = y.long ∙ x.long;
   front =
       y.front ∙ ap₂ (λ (n : ℕ) (s : Text). within n (joined s q)) x.long x.front
       ∙ within_longer (length b) (joined (front_of b at) p) q
       ∙ ap (within (length b)) (joined_assoc (front_of b at) p q);
+  inside = λ h. in_room r (y.inside (omega (arith, x.inside h, x.long)));
 }
+  where
+    in_room : (o : std.Option ℕ) → InRoom b₁ o → InRoom b o
+    in_room None h = tt
+    in_room (Some n) h = omega (arith, x.long)
 
--- where the text before it had no room, no piece is laid
-pub laid_no_more : (p : Text) (b : List ℕ) (at : ℕ) → length b < at → Laid p b at b at
-unfolding within joined
-laid_no_more p b at h = record {
-  long = refl;
-  front = no_front b at h ∙ sym (ap (λ (s : Text). within (length b) (joined s p)) (no_front b at h));
+-- where a piece has no room, what is behind it has none
+pub laid_stops : {p : Text} {b b₁ : List ℕ} {at : ℕ} → Laid p b at b₁ None → (q : Text) → Laid (joined p q) b at b₁ None
+unfolding joined within
+laid_stops {p} {b} {b₁} {at} x q = record {
+  long = x.long;
+  front =
+      ap (λ (s : Text). within (length b) (joined s q)) x.front
+      ∙ within_longer (length b) (joined (front_of b at) p) q
+      ∙ ap (within (length b)) (joined_assoc (front_of b at) p q);
+  inside = λ h. tt;
 }
 
 -- a text that can't be written
-pub laid_none : (b : List ℕ) (at : ℕ) → Laid none b at b (length b + 1)
+pub laid_none : (b : List ℕ) (at : ℕ) → Laid none b at b None
 unfolding within
 laid_none b at = record {
   long = refl;
-  front = no_front b (length b + 1) (omega arith) ∙ sym (ap (within (length b)) (joined_none (front_of b at)));
+  front = sym (ap (within (length b)) (joined_none (front_of b at)));
+  inside = λ h. tt;
 }
 
-module _ (b : List ℕ) (at x : ℕ) where
-  -- a byte that has room
-  pub laid_byte : at < length b → Laid (some (x ∷ [])) b at (set b at x) (at + 1)
-  unfolding joined
-  laid_byte h =
-      let long : length (set b at x) ≡ length b = length-set b at x in
-      let whole : length (take at b ++ (x ∷ [])) ≡ length (take at b) + 1 = length-append (take at b) (x ∷ []) in
-      let part : length (take at b) ≡ at = length-take-le at b (omega arith) in
-      record {
-        long = long;
-        front =
-            front_at (set b at x) (at + 1) (omega arith)
-            ∙ ap {B = Text} (λ (n : ℕ). some (take n (set b at x))) (add-one at)
-            ∙ ap {B = Text} some (take-suc-set b at x h)
-            ∙ sym (within_room (length b) (take at b ++ (x ∷ [])) (omega arith))
-            ∙ sym (ap (λ (s : Text). within (length b) (joined s (some (x ∷ [])))) (front_at b at (omega arith)));
-      }
+-- a text that has no room
+pub laid_no_room : (x b : List ℕ) (at : ℕ) → (length b < at) ⊎ (length b < at + length x) → Laid (some x) b at b None
+unfolding joined within
+laid_no_room x b at h = record { long = refl; front = sym (ends (leb at (length b)) refl h); inside = λ h. tt }
+  where
+    ends : (t : Bool) → leb at (length b) ≡ t → (length b < at) ⊎ (length b < at + length x) →
+        within (length b) (joined (front_of b at) (some x)) ≡ none
+    ends true e h =
+        let end : at ≤ length b = leb-true at (length b) e in
+        let part : length (take at b) ≡ at = length-take-le at b end in
+        ap (λ (s : Text). within (length b) (joined s (some x))) (front_at b at end)
+        ∙ without_room (length b) (take at b ++ x) (omega (arith, h, length-append (take at b) x))
+    ends false e h = ap (λ (s : Text). within (length b) (joined s (some x))) (no_front b at (leb-false at (length b) e))
 
-  -- a byte that has none
-  pub laid_no_byte : length b ≤ at → Laid (some (x ∷ [])) b at b (length b + 1)
-  unfolding joined within
-  laid_no_byte h = record { long = refl; front = no_front b (length b + 1) (omega arith) ∙ sym (ends (leb at (length b)) refl) }
-    where
-      ends : (t : Bool) → leb at (length b) ≡ t → within (length b) (joined (front_of b at) (some (x ∷ []))) ≡ none
-      ends true e =
-          let end : at ≤ length b = leb-true at (length b) e in
-          let part : length (take at b) ≡ at = length-take-le at b end in
-          ap (λ (s : Text). within (length b) (joined s (some (x ∷ [])))) (front_at b at end)
-          ∙ without_room (length b) (take at b ++ (x ∷ [])) (omega (arith, length-append (take at b) (x ∷ [])))
-      ends false e = ap (λ (s : Text). within (length b) (joined s (some (x ∷ [])))) (no_front b at (leb-false at (length b) e))
+-- a text that has room, copied to its place
+pub laid_text : (x b b₁ : List ℕ) (at : ℕ) → at + length x ≤ length b → length b₁ ≡ length b → take (at + length x) b₁ ≡ take at b ++ x →
+    Laid (some x) b at b₁ (Some (at + length x))
+unfolding joined
+laid_text x b b₁ at h l e =
+    let part : length (take at b) ≡ at = length-take-le at b (omega arith) in
+    record {
+      long = l;
+      front =
+          front_at b₁ (at + length x) (omega arith)
+          ∙ ap {B = Text} some e
+          ∙ sym (within_room (length b) (take at b ++ x) (omega (arith, length-append (take at b) x)))
+          ∙ sym (ap (λ (s : Text). within (length b) (joined s (some x))) (front_at b at (omega arith)));
+      inside = λ k. h;
+    }
 
--- a text laid byte by byte: one byte more, and the last
-module _ (x : List ℕ) (i : ℕ) {b b₁ : List ℕ} {at at₁ : ℕ} (g : Laid (some (take i x)) b at b₁ at₁) where
-  pub laid_next : i < length x → {b₂ : List ℕ} {at₂ : ℕ} → Laid (some (get_or x i 0 ∷ [])) b₁ at₁ b₂ at₂ →
-      Laid (some (take (i + 1) x)) b at b₂ at₂
+-- a text laid byte by byte: one byte more, the last, and one that has no room
+module _ (x : List ℕ) (i : ℕ) {b b₁ : List ℕ} {at at₁ : ℕ} (g : Laid (some (take i x)) b at b₁ (Some at₁)) where
+  pub laid_next : i < length x → {b₂ : List ℕ} {r : std.Option ℕ} → Laid (some (get_or x i 0 ∷ [])) b₁ at₁ b₂ r →
+      Laid (some (take (i + 1) x)) b at b₂ r
   unfolding joined
   laid_next h y = rw (add-one, take-suc x i 0 h) (laid_then g y)
 
-  pub laid_whole : length x ≤ i → Laid (some x) b at b₁ at₁
+  pub laid_whole : length x ≤ i → Laid (some x) b at b₁ (Some at₁)
   laid_whole h = rw (take_all i x h) at g
 
+  pub laid_short : i < length x → {b₂ : List ℕ} → Laid (some (get_or x i 0 ∷ [])) b₁ at₁ b₂ None → Laid (some x) b at b₂ None
+  unfolding joined
+  laid_short h y = laid_as (ap {B = Text} some (take-append-drop (i + 1) x)) (laid_stops (laid_next h y) (some (drop (i + 1) x)))
+
 -- a number digit by digit
-pub laid_digit : (n : ℕ) → n < 10 → {b b₁ : List ℕ} {at at₁ : ℕ} → Laid (some ((48 + n) ∷ [])) b at b₁ at₁ →
-    Laid (some (decimal n)) b at b₁ at₁
+pub laid_digit : (n : ℕ) → n < 10 → {b b₁ : List ℕ} {at : ℕ} {r : std.Option ℕ} → Laid (some ((48 + n) ∷ [])) b at b₁ r →
+    Laid (some (decimal n)) b at b₁ r
 laid_digit n h g = laid_as (ap {B = Text} some (sym (decimal_one n h))) g
 
-pub laid_digits : (n : ℕ) → 10 ≤ n → n < 10000000 → {b b₁ b₂ : List ℕ} {at at₁ at₂ : ℕ} →
-    Laid (some (decimal (n / 10))) b at b₁ at₁ → Laid (some ((48 + n % 10) ∷ [])) b₁ at₁ b₂ at₂ → Laid (some (decimal n)) b at b₂ at₂
+pub laid_digits : (n : ℕ) → 10 ≤ n → n < 10000000 → {b b₁ b₂ : List ℕ} {at at₁ : ℕ} {r : std.Option ℕ} →
+    Laid (some (decimal (n / 10))) b at b₁ (Some at₁) → Laid (some ((48 + n % 10) ∷ [])) b₁ at₁ b₂ r → Laid (some (decimal n)) b at b₂ r
 unfolding joined
 laid_digits n h l g y = laid_as (ap {B = Text} some (sym (decimal_last n h l))) (laid_then g y)
+
+pub digits_stop : (n : ℕ) → 10 ≤ n → n < 10000000 → {b b₁ : List ℕ} {at : ℕ} → Laid (some (decimal (n / 10))) b at b₁ None →
+    Laid (some (decimal n)) b at b₁ None
+unfolding joined
+digits_stop n h l g = laid_as (ap {B = Text} some (sym (decimal_last n h l))) (laid_stops g (some ((48 + n % 10) ∷ [])))

@@ -1,21 +1,22 @@
 -- The piece of a node by its kind: a name, or a keyword and its fields. Assumes nothing.
 use Prim.Native.Nat.{ℕ, zero, suc, ◌-◌, ◌≤◌, ◌<◌}
-use mathlib.Core.Path.{◌≡◌, refl, sym}
+use mathlib.Core.Path.{◌≡◌, refl, sym, ◌∙◌}
 use mathlib.Core.Option.{Option, none, some}
 use mathlib.Core.List.{List, [], ◌∷◌, ◌++◌}
 use native.Mathlib.Omega.{arith}
 use borrow.Author.Tests.{lt-ltb, le-ltb}
-use lib.ListN.{get_or}
+use lib.ListN.{length, get_or, drop}
 use Rattle.theory.specs.Form.{form}
 use Rattle.theory.specs.Term.{Term, Ident, Pair, Fst, Snd, Fn, App, Inl, Inr, Case, Abort, Asc, Unit', term}
 use Rattle.theory.specs.Names.{spell, bytes_of}
-use Rattle.theory.specs.Layout.{Field, fields_of, piece_of}
+use Rattle.theory.specs.Layout.{Field, name, fields_of, piece_of}
 use Rattle.theory.specs.Text.{bytes, form_text, term_text}
 use Rattle.theory.specs.Writer.{form_depth, term_depth}
 use Rattle.theory.proofs.TextByNode.{piece_text, piece_depth}
-use Rattle.proof_term.specs.Kinds.{keywords, keyword}
+use Rattle.proof_term.specs.Kinds.{keyword}
 use Rattle.house_text.specs.Laid.{joined}
 use Rattle.house_text.specs.Pieces.{up_to, book, nodes, form_piece, term_piece, field_piece}
+use Rattle.house_text.proofs.Laying.{joined_assoc}
 use Rattle.house_text.proofs.Levels.{Whole, whole, above, alone, before_it, behind_it, beside, too_deep}
 
 -- the bytes of a name, by the side that it stands on
@@ -94,7 +95,7 @@ module _ (words terms : List ℕ) (names : List (List ℕ)) where
     pub shown_piece : (k : ℕ) →
         Whole (shown (fields_of k) (keyword k)) (suc l) (piece_depth child_depth formula_depth (piece_of k a b c d e))
         (piece_text names child_text formula_text (piece_of k a b c d e))
-    unfolding keyword keywords fields_of piece_of field_piece form_piece term_piece joined bytes
+    unfolding keyword fields_of piece_of field_piece form_piece term_piece joined bytes
     shown_piece zero = alone l (bytes_of names a)
     shown_piece (suc zero) = above (before_it (keyword 1) (beside (child_piece a) (behind_it (child_piece b) (bytes ")"))))
     shown_piece (suc (suc zero)) = above (before_it (keyword 2) (behind_it (child_piece a) (bytes ")")))
@@ -115,3 +116,33 @@ module _ (words terms : List ℕ) (names : List (List ℕ)) where
         above (before_it (keyword 11) (beside (child_piece a) (behind_it (ascribed_piece b) (bytes ")"))))
     shown_piece (suc (suc (suc (suc (suc (suc (suc (suc (suc (suc (suc (suc zero)))))))))))) = alone l (bytes "()")
     shown_piece (suc (suc (suc (suc (suc (suc (suc (suc (suc (suc (suc (suc (suc k))))))))))))) = alone l (bytes "()")
+
+  -- a text, and the pieces of the first n fields behind it
+  unfoldable pub front_piece : ℕ → Option (List ℕ) → List Field → List ℕ → ℕ → Option (List ℕ)
+  front_piece l p fs xs zero = p
+  front_piece l p [] xs (suc n) = p
+  front_piece l p (f ∷ fs) [] (suc n) = p
+  front_piece l p (f ∷ fs) (x ∷ xs) (suc n) = front_piece l (joined p (field_piece words terms names l f x)) fs xs n
+
+  pub front_next : (l n : ℕ) (p : Option (List ℕ)) (fs : List Field) (xs : List ℕ) → n < length fs → n < length xs →
+      front_piece l p fs xs (suc n) ≡
+      joined (front_piece l p fs xs n) (field_piece words terms names l (get_or fs n name) (get_or xs n 0))
+  unfolding front_piece
+  front_next l zero p [] xs h k = absurd (omega arith)
+  front_next l zero p (f ∷ fs) [] h k = absurd (omega arith)
+  front_next l zero p (f ∷ fs) (x ∷ xs) h k = refl
+  front_next l (suc n) p [] xs h k = absurd (omega arith)
+  front_next l (suc n) p (f ∷ fs) [] h k = absurd (omega arith)
+  front_next l (suc n) p (f ∷ fs) (x ∷ xs) h k =
+      front_next l n (joined p (field_piece words terms names l f x)) fs xs (omega arith) (omega arith)
+
+  -- behind them the other fields' pieces are laid
+  pub front_rest : (l n : ℕ) (p : Option (List ℕ)) (fs : List Field) (xs : List ℕ) → length fs ≤ length xs →
+      joined (front_piece l p fs xs n) (fields_piece l (drop n fs) (drop n xs)) ≡ joined p (fields_piece l fs xs)
+  unfolding front_piece
+  front_rest l zero p fs xs h = refl
+  front_rest l (suc n) p [] xs h = refl
+  front_rest l (suc n) p (f ∷ fs) [] h = absurd (omega arith)
+  front_rest l (suc n) p (f ∷ fs) (x ∷ xs) h =
+      front_rest l n (joined p (field_piece words terms names l f x)) fs xs (omega arith)
+      ∙ joined_assoc p (field_piece words terms names l f x) (fields_piece l fs xs)

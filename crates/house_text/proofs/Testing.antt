@@ -13,11 +13,11 @@ use Rattle.theory.specs.Refusal.{formula_sizes, term_sizes, node_sizes, too_many
 use Rattle.theory.specs.Writer.{Draft, writer_refusal}
 use Rattle.theory.proofs.Tests.{and_right}
 
-pub wrong_words : (a b : Bool) → a ≡ false → false ≡ (a && b)
-wrong_words a b e = sym (ap (λ (t : Bool). t && b) e)
+pub wrong_words : {a : Bool} (b : Bool) → false ≡ a → false ≡ (a && b)
+wrong_words b e = ap (λ (t : Bool). t && b) e
 
-pub right_words : (a b : Bool) → a ≡ true → b ≡ (a && b)
-right_words a b e = sym (ap (λ (t : Bool). t && b) e)
+pub right_words : {a : Bool} (b : Bool) → true ≡ a → b ≡ (a && b)
+right_words b e = ap (λ (t : Bool). t && b) e
 
 -- the slice has room for the nodes where the sizes are right
 pub nodes_fit : (words count numbers nodes : ℕ) → (formula_sizes words count && node_sizes numbers nodes) ≡ true →

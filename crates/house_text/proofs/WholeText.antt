@@ -1,5 +1,5 @@
 -- From the laid text to what the writer hands back. Assumes nothing.
-use Prim.Native.Nat.{ℕ, ◌-◌, ◌≤◌, ◌<◌}
+use Prim.Native.Nat.{ℕ, ◌-◌, ◌≤◌}
 use mathlib.Core.Path.{◌≡◌, refl, sym, ap, ◌∙◌}
 use mathlib.Core.Bool.{Bool, true, false}
 use mathlib.Core.Option.{Option, none, some}
@@ -16,11 +16,16 @@ use Rattle.theory.specs.Text.{term_text}
 use Rattle.theory.specs.Writer.{Draft, writer_refusal, drafted, term_depth, text_fitted, not_written, written}
 use Rattle.theory.proofs.Cleared.{padded_take}
 use Rattle.theory.proofs.Fitted.{Front, whole, whole_front, emptied_front}
-use Rattle.identifier_generator.specs.Handed.{Hands}
+use Rattle.std.proofs.Common.{Some, None}
+use Rattle.std.proofs.Common as std
+use Rattle.std.specs.Option.{unwrap_or, ok_or}
+use Rattle.identifier_generator.specs.Handed.{Hands, size_in, number_in}
 use Rattle.identifier_generator.proofs.Handing.{hands_nothing, hands_text}
-use Rattle.house_text.specs.Laid.{within, front_of, Laid}
+use Rattle.house_text.specs.declared.TextRefusal.TheVariants.{NoRoom}
+use Rattle.house_text.specs.Drafted.{number_of, place_of}
+use Rattle.house_text.specs.Laid.{within, front_in, Laid}
 use Rattle.house_text.specs.Pieces.{up_to, book, nodes, term_piece}
-use Rattle.house_text.proofs.Laying.{front_at, no_front, joined_front}
+use Rattle.house_text.proofs.Laying.{front_at, joined_front}
 
 -- what a text is handed back as, or 12 where there is none
 abbrev handed_back : ℕ → Option (List ℕ) → Written
@@ -43,29 +48,34 @@ text_fitted_lem names t room = go (leb (term_depth t) 1024)
     go true = short (leb (length (term_text names t)) room)
     go false = refl
 
-module _ (words terms : List ℕ) (names : List (List ℕ)) (root : ℕ) {b b₁ : List ℕ} {end : ℕ}
-    (g : Laid (term_piece words terms names 1024 root) b 0 b₁ end) where
+module _ (words terms : List ℕ) (names : List (List ℕ)) (root : ℕ) (b : List ℕ) where
   abbrev text : Written
   text = text_fitted names (term (book words) (nodes terms) root) (length b)
 
   -- what stands in front of the end is what is handed back
-  handed : text ≡ handed_back (length b) (front_of b₁ end)
+  handed : {b₁ : List ℕ} {r : std.Option ℕ} → Laid (term_piece words terms names 1024 root) b 0 b₁ r →
+      text ≡ handed_back (length b) (front_in b₁ r)
   unfolding term_piece
-  handed =
+  handed {b₁} {r} g =
       text_fitted_lem names (term (book words) (nodes terms) root) (length b)
       ∙ ap (handed_back (length b)) (sym (g.front ∙ ap (within (length b)) (joined_front b (term_piece words terms names 1024 root))))
 
-  -- an end past the buffer
-  pub hands_twelve : {b₂ : List ℕ} → length b₁ < end → b₂ ≡ take 0 b₁ ++ replicate (length b₁ - 0) 0 → Hands text 0 12 b₂
-  hands_twelve h z =
+  -- the text is cleared behind its end, or all of the buffer where there is no end
+  pub hands_laid : (r : std.Option ℕ) {b₁ b₂ : List ℕ} → Laid (term_piece words terms names 1024 root) b 0 b₁ r →
+      b₂ ≡ take (unwrap_or r 0) b₁ ++ replicate (length b₁ - unwrap_or r 0) 0 →
+      Hands text (size_in (ok_or r NoRoom)) (number_in number_of (ok_or r NoRoom)) b₂
+  hands_laid None {b₁} {b₂} g z =
       let all : length b₁ - 0 ≡ length b = omega (arith, g.long) in
-      hands_nothing 12 (length b) (handed ∙ ap (handed_back (length b)) (no_front b₁ end h)) (z ∙ ap (λ (n : ℕ). replicate n 0) all)
+      hands_nothing 12 (length b) (handed g) (z ∙ ap (λ (n : ℕ). replicate n 0) all)
+  hands_laid (Some end) {b₁} {b₂} g z =
+      let inside : end ≤ length b₁ = omega (arith, g.inside (omega arith), g.long) in
+      hands_text (take end b₁) (length b) (handed g ∙ ap (handed_back (length b)) (front_at b₁ end inside))
+      (sym (length-take-le end b₁ inside)) (z ∙ padded_take b₁ end ∙ ap (λ (n : ℕ). padded n (take end b₁)) g.long)
 
-  -- an end in it
-  pub hands_whole : {b₂ : List ℕ} → end ≤ length b₁ → b₂ ≡ take end b₁ ++ replicate (length b₁ - end) 0 → Hands text end 0 b₂
-  hands_whole h z =
-      hands_text (take end b₁) (length b) (handed ∙ ap (handed_back (length b)) (front_at b₁ end h)) (sym (length-take-le end b₁ h))
-      (z ∙ padded_take b₁ end ∙ ap (λ (n : ℕ). padded n (take end b₁)) g.long)
+-- whether it has room or not, nothing is refused at a place
+pub no_place : (r : std.Option ℕ) → number_in place_of (ok_or r NoRoom) ≡ 0
+no_place None = refl
+no_place (Some end) = refl
 
 -- a text is handed back at place 0, as the front of its buffer
 fitted_front : (x : List ℕ) (room : ℕ) → ((fitted x room).place ≡ 0) × Front (fitted x room)

@@ -1,5 +1,5 @@
 -- The pieces that the writer lays: a formula, a term, a field of a node, and what it stands on. Assumes nothing.
-use Rattle.std.specs.Prelude.{ℕ, ◌/◌, ◌<◌, true, false, List, [], ◌∷◌, map, leb, eqb, length}
+use Rattle.std.specs.Prelude.{ℕ, ◌/◌, ◌<◌, true, false, List, [], ◌∷◌, map, leb, length}
 use Rattle.std.proofs.Math.Option.{Option, none, some}
 use Rattle.theory.specs.Form.{Book, Good, shape, form}
 use Rattle.theory.specs.Term.{Node, NodesFrom, term}
@@ -51,7 +51,3 @@ module _ (words terms : List ℕ) (names : List (List ℕ)) where
   field_piece levels child x = joined (some (bytes " ")) (term_piece levels x)
   field_piece levels formula x = joined (some (bytes " ")) (form_piece words levels x)
   field_piece levels unused x = some []
-
--- "(& A B), (| A B), (> A B)": what stands before the halves
-unfoldable pub opening : ℕ → List ℕ
-opening k = elim (eqb k 3) [ true ↦ bytes "(& " | false ↦ elim (eqb k 4) [ true ↦ bytes "(| " | false ↦ bytes "(> " ] ]

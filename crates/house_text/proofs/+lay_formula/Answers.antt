@@ -1,85 +1,108 @@
 -- `lay_formula` lays a formula by its word, the halves by itself. The measure is the index: the halves have smaller ones. Assumes nothing.
-use Prim.Native.Nat.{◌≤◌}
+use Prim.Native.Nat.{ℕ}
+use mathlib.Core.Path.{refl, ap}
 use native.Mathlib.Omega.{arith}
+use lib.ListN.{get_or}
+use Rattle.theory.specs.Form.{kind_of}
 use Rattle.theory.specs.Text.{bytes}
-use Rattle.house_text.specs.Pieces.{form_piece}
-use Rattle.house_text.proofs.Laying.{laid_as, laid_then, laid_none, laid_no_more}
-use Rattle.house_text.proofs.FormulaPieces.{word_read, no_formula, true_piece, false_piece, atom_piece, leaf_piece}
-use Rattle.house_text.proofs.FormulaPieces.{halves_below, halves_piece}
+use Rattle.house_text.proofs.Laying.{laid_as, laid_then, laid_stops, laid_none}
+use Rattle.house_text.proofs.FormulaPieces.{Opens, opens_and, opens_or, opens_impl, atom_leaf, all_leaf, late_leaf}
+use Rattle.house_text.proofs.FormulaPieces.{word_read, no_formula, true_piece, false_piece, leaf_piece, halves_below, halves_piece}
 use Rattle.house_text.proofs.+lay_formula.Goals as goal
+use Rattle.house_text.proofs.+lay_formula.Goals.{Joined-kind_at, in-And, in-Or, in-Impl}
+
+-- what stands before the halves, whichever arm it comes from
+opens : (t : ℕ) (c : Joined-kind_at t) → Opens (kind_of (get_or c.args.words.now c.args.i 0)) c.match-kind_at.opening.now
+unfolding bytes
+opens t c =
+    elim c.match-kind_at.branch [
+      | in-And w ↦ opens_and w.in-And.ensures (ap (λ r. r.now) w.opening-is)
+      | in-Or w ↦ opens_or w.in-Or.ensures (ap (λ r. r.now) w.opening-is)
+      | in-Impl w ↦ opens_impl w.in-Impl.ensures (ap (λ r. r.now) w.opening-is)
+    ]
 
 pub returns-then-levels-eq0 : goal.returns-then-levels-eq0
 returns-then-levels-eq0 t c =
     let args = c.args in
     laid_as (no_formula args.words.now args.levels args.i c.if-levels-eq0.true) (laid_none args.buf.now args.at)
 
-pub returns-then-buf-at : goal.returns-then-buf-at
-returns-then-buf-at t c =
-    let args = c.args in
-    laid_no_more (form_piece args.words.now args.levels args.i) args.buf.now args.at c.if-buf-at.true
-
-pub returns-then-kind-eq-TRUE : goal.returns-then-kind-eq-TRUE
+pub returns-in-True : goal.returns-in-True
 unfolding bytes
-returns-then-kind-eq-TRUE t c =
-    laid_as (true_piece (word_read c.requires.good c.requires.inside c.kind-kind.ensures c.left-left.ensures) c.args.levels
-    c.if-levels-eq0.false c.if-kind-eq-TRUE.true) c.lay.ensures
+returns-in-True t c =
+    laid_as (true_piece (word_read c.requires.good c.requires.inside refl c.left_at-left.ensures) c.args.levels
+    c.if-levels-eq0.false c.in-True.ensures) c.lay.ensures
 
-pub returns-then-kind-eq-FALSE : goal.returns-then-kind-eq-FALSE
+pub returns-in-False : goal.returns-in-False
 unfolding bytes
-returns-then-kind-eq-FALSE t c =
-    laid_as (false_piece (word_read c.requires.good c.requires.inside c.kind-kind.ensures c.left-left.ensures) c.args.levels
-    c.if-levels-eq0.false c.if-kind-eq-FALSE.true) c.lay-then-kind-eq-FALSE.ensures
+returns-in-False t c =
+    laid_as (false_piece (word_read c.requires.good c.requires.inside refl c.left_at-left.ensures) c.args.levels
+    c.if-levels-eq0.false c.in-False.ensures) c.lay-in-False.ensures
 
 pub lay_leaf-requires : goal.lay_leaf-requires
 lay_leaf-requires t c =
-    omega (arith, c.left-left.ensures)
+    omega (arith, c.left_at-left.ensures)
 
-pub returns-then-kind-eq-ATOM : goal.returns-then-kind-eq-ATOM
-returns-then-kind-eq-ATOM t c =
-    laid_as (atom_piece (word_read c.requires.good c.requires.inside c.kind-kind.ensures c.left-left.ensures) c.args.levels
-    c.if-levels-eq0.false c.if-kind-eq-ATOM.true)
-    c.lay_leaf.ensures
+pub returns-in-Atom : goal.returns-in-Atom
+returns-in-Atom t c =
+    laid_as (leaf_piece (word_read c.requires.good c.requires.inside refl c.left_at-left.ensures) c.args.levels
+    c.if-levels-eq0.false (atom_leaf c.in-Atom.ensures)) c.lay_leaf.ensures
 
-pub lay_leaf-requires-then-kind-gt-IMPL : goal.lay_leaf-requires-then-kind-gt-IMPL
-lay_leaf-requires-then-kind-gt-IMPL t c =
-    omega (arith, c.left-left.ensures)
+pub returns-in-ForAll : goal.returns-in-ForAll
+returns-in-ForAll t c =
+    laid_as (leaf_piece (word_read c.requires.good c.requires.inside refl c.left_at-left.ensures) c.args.levels
+    c.if-levels-eq0.false (all_leaf c.in-ForAll.ensures)) c.lay_leaf-in-ForAll.ensures
 
-pub returns-then-kind-gt-IMPL : goal.returns-then-kind-gt-IMPL
-returns-then-kind-gt-IMPL t c =
-    laid_as (leaf_piece (word_read c.requires.good c.requires.inside c.kind-kind.ensures c.left-left.ensures) c.args.levels
-    c.if-levels-eq0.false c.if-kind-gt-IMPL.true)
-    c.lay_leaf-then-kind-gt-IMPL.ensures
+pub returns-in-Exists : goal.returns-in-Exists
+returns-in-Exists t c =
+    laid_as (leaf_piece (word_read c.requires.good c.requires.inside refl c.left_at-left.ensures) c.args.levels
+    c.if-levels-eq0.false (late_leaf c.kind_at.ensures c.in-Exists.is)) c.lay_leaf-in-Exists.ensures
 
-pub lay_formula-one-requires : goal.lay_formula-one-requires
-lay_formula-one-requires t c =
-    let below = halves_below (word_read c.requires.good c.requires.inside c.kind-kind.ensures c.left-left.ensures)
-    c.right-right.ensures (omega arith) c.if-kind-gt-IMPL.false in
+pub lay_formula-requires : goal.lay_formula-requires
+lay_formula-requires t c =
+    let below = halves_below (word_read c.requires.good c.requires.inside refl c.left_at-left.ensures) refl
+    (opens t (goal.at.lay_formula-requires t c).Joined-kind_at) in
     (omega (arith, below, c.requires), (c.requires.good, omega (arith, below, c.requires)))
 
-pub overflow_sub-levels-2 : goal.overflow_sub-levels-2
-overflow_sub-levels-2 t c =
-    omega (arith, c.if-levels-eq0.false)
-
-pub lay_formula-two-requires : goal.lay_formula-two-requires
-lay_formula-two-requires t c =
-    let high : 3 ≤ c.kind-kind.result = omega (arith, c.if-kind-eq-TRUE.false, c.if-kind-eq-FALSE.false, c.if-kind-eq-ATOM.false) in
-    let below = halves_below (word_read c.requires.good c.requires.inside c.kind-kind.ensures c.left-left.ensures)
-    c.right-right.ensures high c.if-kind-gt-IMPL.false in
+pub lay_formula-requires-2 : goal.lay_formula-requires-2
+lay_formula-requires-2 t c =
+    let below = halves_below (word_read c.requires.good c.requires.inside refl c.left_at-left.ensures) c.right_at.ensures
+    (opens t (goal.at.lay_formula-requires-2 t c).Joined-kind_at) in
     (omega (arith, below, c.requires), (c.requires.good, omega (arith, below, c.requires)))
 
-pub shape_of-buf : goal.shape_of-buf
-shape_of-buf t c =
-    (laid_then c.lay_opening-opened.ensures (laid_then c.lay_formula-one.ensures
-    (laid_then c.lay-between.ensures
-    (laid_then c.lay_formula-two.ensures c.lay-2.ensures)))).long
+pub returns-in_err-opened : goal.returns-in_err-opened
+unfolding bytes
+returns-in_err-opened t c =
+    rw c.from_residual.ensures (laid_as (halves_piece (word_read c.requires.good c.requires.inside refl c.left_at-left.ensures)
+    c.args.levels c.if-levels-eq0.false refl (opens t (goal.at.returns-in_err-opened t c).Joined-kind_at))
+    (laid_stops c.in_err-opened.ensures _))
+
+pub returns-in_err-one : goal.returns-in_err-one
+unfolding bytes
+returns-in_err-one t c =
+    rw c.from_residual-in_err-one.ensures (laid_as (halves_piece (word_read c.requires.good c.requires.inside refl c.left_at-left.ensures)
+    c.args.levels c.if-levels-eq0.false refl (opens t (goal.at.returns-in_err-one t c).Joined-kind_at))
+    (laid_then c.in_ok-opened.ensures (laid_stops c.in_err-one.ensures _)))
+
+pub returns-in_err-between : goal.returns-in_err-between
+unfolding bytes
+returns-in_err-between t c =
+    rw c.from_residual-in_err-between.ensures
+    (laid_as (halves_piece (word_read c.requires.good c.requires.inside refl c.left_at-left.ensures)
+    c.args.levels c.if-levels-eq0.false refl (opens t (goal.at.returns-in_err-between t c).Joined-kind_at))
+    (laid_then c.in_ok-opened.ensures (laid_then c.in_ok-one.ensures (laid_stops c.in_err-between.ensures _))))
+
+pub returns-in_err-two : goal.returns-in_err-two
+unfolding bytes
+returns-in_err-two t c =
+    rw c.from_residual-in_err-two.ensures (laid_as (halves_piece (word_read c.requires.good c.requires.inside refl c.left_at-left.ensures)
+    c.args.levels c.if-levels-eq0.false c.right_at.ensures (opens t (goal.at.returns-in_err-two t c).Joined-kind_at))
+    (laid_then c.in_ok-opened.ensures (laid_then c.in_ok-one.ensures (laid_then c.in_ok-between.ensures
+    (laid_stops c.in_err-two.ensures _)))))
 
 pub returns : goal.returns
 unfolding bytes
 returns t c =
-    let high : 3 ≤ c.kind-kind.result = omega (arith, c.if-kind-eq-TRUE.false, c.if-kind-eq-FALSE.false, c.if-kind-eq-ATOM.false) in
-    laid_as (halves_piece (word_read c.requires.good c.requires.inside c.kind-kind.ensures c.left-left.ensures) c.args.levels
-    c.if-levels-eq0.false c.right-right.ensures high
-    c.if-kind-gt-IMPL.false)
-    (laid_then c.lay_opening-opened.ensures (laid_then c.lay_formula-one.ensures
-    (laid_then c.lay-between.ensures
-    (laid_then c.lay_formula-two.ensures c.lay-2.ensures))))
+    laid_as (halves_piece (word_read c.requires.good c.requires.inside refl c.left_at-left.ensures)
+    c.args.levels c.if-levels-eq0.false c.right_at.ensures (opens t (goal.at.returns t c).Joined-kind_at))
+    (laid_then c.in_ok-opened.ensures (laid_then c.in_ok-one.ensures (laid_then c.in_ok-between.ensures
+    (laid_then c.in_ok-two.ensures c.lay-4.ensures))))

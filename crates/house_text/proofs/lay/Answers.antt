@@ -1,25 +1,28 @@
--- `lay` has laid the bytes before `i`. The measure is what is left of the text. Assumes nothing.
+-- `lay` copies the text where it has room. Assumes nothing.
+use mathlib.Core.Path.{ap, ◌∙◌}
+use mathlib.Core.List.{◌++◌}
+use mathlib.Core.Logic.{inl, inr}
+use Prim.Native.Nat.{◌+◌}
 use native.Mathlib.Omega.{arith}
-use Rattle.house_text.proofs.Laying.{laid_nothing, laid_next, laid_whole}
+use lib.ListN.{length, take}
+use Rattle.std.proofs.lemmas.Slice.{take-put_mid}
+use Rattle.std.proofs.lemmas.Slice.{overwrites}
+use Rattle.std.proofs.Common.{rules}
+use Rattle.house_text.proofs.Laying.{laid_no_room, laid_text}
 use Rattle.house_text.proofs.lay.Goals as goal
+use Rattle.house_text.proofs.lay.Goals.{then-buf-at-via-then-buf-at, then-buf-at-via-else-buf-at+then-buf-at-2}
 
-pub loop-i-init : goal.loop-i-init
-loop-i-init c =
-    (omega arith, laid_nothing c.args.buf.now c.args.at)
-
-pub loop-i-smaller : goal.loop-i-smaller
-loop-i-smaller c =
-    omega arith
-
-pub loop-i-preserved : goal.loop-i-preserved
-loop-i-preserved c =
-    let turn = c.loop-i in
-    (omega arith, laid_next c.args.text.now turn.i turn.invariant.1 (omega arith) c.lay_byte-next.ensures)
-
-pub shape_of-buf : goal.shape_of-buf
-shape_of-buf c =
-    c.loop-i.invariant.1.long
+pub returns-then-buf-at : goal.returns-then-buf-at
+returns-then-buf-at c =
+    laid_no_room c.args.text.now c.args.buf.now c.args.at
+    (elim c.then-buf-at.branch [
+      | then-buf-at-via-then-buf-at w ↦ inl w.if-buf-at.true
+      | then-buf-at-via-else-buf-at+then-buf-at-2 w ↦ inr (omega arith)
+    ])
 
 pub returns : goal.returns
 returns c =
-    laid_whole c.args.text.now c.loop-i.i c.loop-i.invariant.1 (omega arith)
+    let b = c.args.buf.now in
+    let at = c.args.at in
+    let x = c.args.text.now in
+    laid_text x b _ at (omega arith) (search (rules, overwrites)) (take-put_mid at _ b _ (at + length x) (omega arith) (omega arith) ∙ ap (λ t. take at b ++ t) (c.copy_from_slice.ensures.after))

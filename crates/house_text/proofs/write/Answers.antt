@@ -6,17 +6,13 @@ use Rattle.house_text.proofs.write.Goals as goal
 
 pub slice_bounds-result-end : goal.slice_bounds-result-end
 slice_bounds-result-end c =
-    part_inside (written_front
-    _) c.write_text-n.ensures.written
+    part_inside (written_front _) c.in_ok-n.ensures.written
 
-pub returns : goal.returns
-returns c =
-    let hands = c.write_text-n.ensures in record {
-      written = record {
-        front_is = refl;
-        part_is = front_is_part
-            (written_front _) hands.written;
-        number_is = hands.written.number_is;
-      };
-      place = hands.place;
+pub returns-clause-written : goal.returns-clause-written
+returns-clause-written c =
+    let hands = c.in_ok-n.ensures.written in
+    record {
+      front_is = refl;
+      part_is = front_is_part (written_front _) hands;
+      number_is = hands.number_is;
     }
