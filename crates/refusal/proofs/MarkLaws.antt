@@ -59,10 +59,10 @@ module _ (ms : List ℕ) (w : ℕ) where
 
   pub first_time : leaf_kind (kind_of w) ≡ true → mark_at ms (left_of w) ≡ 0 →
       (true ≡ agrees ms w) × (marked ms (left_of w) (mark_of (kind_named (kind_of w))) ≡ noted ms w)
-  unfolding agrees noted follows
+  unfolding agrees noted
   first_time e z = (rw (e, agrees, eq-eqb _ 0 z), rw (e, noted, eq-eqb _ 0 z))
 
   pub stood_before : leaf_kind (kind_of w) ≡ true → mark_at ms (left_of w) ≢ 0 →
       (eqb (mark_at ms (left_of w)) (mark_of (kind_named (kind_of w))) ≡ agrees ms w) × (ms ≡ noted ms w)
-  unfolding agrees noted follows
+  unfolding agrees noted
   stood_before e n = (rw (e, agrees, ne_eqb _ 0 n), rw (e, noted, ne_eqb _ 0 n))

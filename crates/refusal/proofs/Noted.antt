@@ -73,7 +73,7 @@ no_mark s =
     rw (byte, zero-div (2 ^ shift_of s))
 
 pub none_noted : Noted (replicate 4096 0) []
-unfolding stands_otherwise follows
+unfolding stands_otherwise
 none_noted = record {
   long = length-replicate {A = ℕ} 4096 0;
   tells = λ {k} s leaf h. sym (ap (λ (m : ℕ). not (follows m k)) (no_mark s));
@@ -90,7 +90,7 @@ stands_snoc k s (v ∷ before) w =
 
 -- the kinds that may follow on a leaf's symbol after it: its own
 after_first_lem : {k k₀ : ℕ} → LeafKind k → LeafKind k₀ → not (eqb k k₀) ≡ not (follows (mark_of (kind_named k₀)) k)
-unfolding follows kind_named
+unfolding kind_named
 after_first_lem atom atom = refl
 after_first_lem atom for_all = refl
 after_first_lem atom exists = refl
@@ -115,8 +115,8 @@ module _ (i w : ℕ) (laid : T (laid_out i w)) (other : leaf_kind (kind_of w) �
   plain_word (is_imp l r) e = tt
 
 -- what may follow on a symbol's mark before and after a leaf that may
-absorbed : (m k k₀ : ℕ) → follows m k₀ ≡ true → (not (follows m k) || not (follows (mark_of (kind_named k₀)) k)) ≡ not (follows (mark_of (kind_named k₀)) k)
-unfolding follows
+absorbed : (m k k₀ : ℕ) → follows m k₀ ≡ true →
+    (not (follows m k) || not (follows (mark_of (kind_named k₀)) k)) ≡ not (follows (mark_of (kind_named k₀)) k)
 absorbed m k k₀ e = go (eqb m 0) (eqb m (mark_of (kind_named k₀))) refl refl e
   where
     go : (a b : Bool) → eqb m 0 ≡ a → eqb m (mark_of (kind_named k₀)) ≡ b → (a || b) ≡ true →

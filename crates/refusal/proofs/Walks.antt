@@ -12,7 +12,7 @@ use lib.Dec.{ltb, leb}
 use borrow.Author.Tests.{ltb-true, ltb-false, le-leb, lt-leb}
 use Rattle.std.specs.List.{position_from}
 use Rattle.theory.specs.Form.{good_word, bad_from, bad_word}
-use Rattle.theory.specs.Refusal.{too_many, outside_from, bad_assumption}
+use Rattle.theory.specs.Refusal.{outside_from}
 use Rattle.refusal.specs.Answers.{option_of}
 
 -- the word under the eye decides, or is passed
@@ -58,13 +58,3 @@ outside_found count i (a ∷ hs) = go (ltb a count) refl (outside_found count (i
         option_of (position_from (λ x. leb count x) i (a ∷ hs)) ≡ outside_from count i (a ∷ hs)
     go true e rest = rw (e, lt-leb count a (ltb-true a count e), outside_from) (rest ∙ ap (λ (k : ℕ). outside_from count k hs) (add-one i))
     go false e rest = rw (e, le-leb count a (ltb-false a count e), outside_from)
-
--- the count is tested first
-module _ (hs : List ℕ) (count : ℕ) where
-  pub too_many_first : (i : ℕ) → too_many (length hs) ≡ some i → bad_assumption count hs ≡ some i
-  unfolding bad_assumption
-  too_many_first i e = rw (e, bad_assumption)
-
-  pub then_outside : too_many (length hs) ≡ none → bad_assumption count hs ≡ outside_from count 0 hs
-  unfolding bad_assumption
-  then_outside e = rw (e, bad_assumption)

@@ -38,7 +38,7 @@ unfoldable pub marked : List ℕ → ℕ → ℕ → List ℕ
 marked marks s m = set marks (byte_of s) (get_or marks (byte_of s) 0 + m * 2 ^ shift_of s)
 
 -- a leaf of kind k may follow on such a mark
-unfoldable pub follows : ℕ → ℕ → Bool
+abbrev pub follows : ℕ → ℕ → Bool
 follows mark k = eqb mark 0 || eqb mark (mark_of (kind_named k))
 
 -- whether a word's leaf symbol has stood under no other kind than the word's, and the table with that noted

@@ -89,6 +89,7 @@ pub fn term_sizes(room: usize) -> bool
 }
 
 // 1, of a term slice that holds `nodes` nodes.
+#[tactic(auto, using(crate::proofs::Room::in_nodes), unfolding(theory::specs::Refusal::node_sizes))]
 pub fn node_sizes(room: usize, nodes: usize) -> bool
     ensures { result ≡ node_sizes room nodes }
 {
@@ -162,6 +163,7 @@ fn outside(assumed: &[u16], count: usize) -> Option<usize>
 }
 
 // 3: over 64 assumptions, or the first index not below the count.
+#[tactic(auto, unfolding(theory::specs::Refusal::bad_assumption))]
 pub fn bad_assumption(assumed: &[u16], count: usize) -> Option<usize>
     ensures { option_of result ≡ bad_assumption count assumed.now }
 {

@@ -13,7 +13,7 @@ const BITS: usize = 2;
 const MASK: u8 = 3;
 
 // The marks: of a symbol that has not stood yet, and of one that has, by its kind.
-// They stay numbers: a table holds them as two bits, so an enum would be made from bits and turned into bits at each use, and be no plainer.
+// They stay numbers: a table holds them as two bits, and an enum, made from bits and turned into bits at each use, would be no plainer.
 const NONE: u8 = 0;
 
 const ATOM: u8 = 1;
@@ -41,6 +41,7 @@ fn shift_of(symbol: usize) -> usize
 }
 
 // The mark of a symbol.
+#[tactic(auto, using(theory::proofs::Fields::take_field), unfolding(crate::specs::Marks::mark_at))]
 fn mark_at(marks: &[u8; BYTES], symbol: usize) -> u8
     requires { symbol < 16384 }
     ensures { result ≡ mark_at marks.now symbol }
@@ -58,6 +59,7 @@ fn mark(marks: &mut [u8; BYTES], symbol: usize, kind: Kind)
 }
 
 // Whether a word's leaf symbol has stood under no other kind than the word's, which is noted.
+#[tactic(auto, using(formula::proofs::KindLaws::leaf_named), unfolding(crate::specs::Marks::agrees, crate::specs::Marks::noted))]
 pub fn agrees(marks: &mut [u8; BYTES], packed: u32) -> bool
     ensures answer { result ≡ agrees marks.old packed }
     ensures table { marks.new ≡ noted marks.old packed }
