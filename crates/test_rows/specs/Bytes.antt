@@ -1,6 +1,7 @@
 -- The list of rows as bytes: the position some bytes on, numbers of two and four bytes, and what is read into a slice. Assumes nothing.
-use Rattle.std.specs.Prelude.{ℕ, zero, suc, ◌+◌, ◌*◌, ◌≤◌, ◌<◌, min, ◌≡◌, List, length, get_or, set}
-use Rattle.context.specs.Area.{Rec, formula_at, term_at}
+use Rattle.std.specs.Prelude.{ℕ, zero, suc, ◌+◌, ◌*◌, min, ◌≡◌, List, length, get_or, set, drop, true, ◌==◌, All}
+use Rattle.std.specs.List.{list_all}
+use Rattle.context.specs.Area.{Rec}
 
 -- k bytes on, and never past the end
 abbrev pub onward : List ℕ → ℕ → ℕ → ℕ
@@ -14,18 +15,14 @@ abbrev pub word_at : List ℕ → ℕ → ℕ
 word_at s at = half_at s at + 65536 * half_at s (onward s at 2)
 
 -- l with n of the values that `value` reads at a position, each so many bytes on, from place i on
-unfoldable pub laid : (List ℕ → ℕ → ℕ) → ℕ → List ℕ → ℕ → ℕ → ℕ → List ℕ → List ℕ
+unfoldable pub laid : {A : Type 0} → (List ℕ → ℕ → A) → ℕ → List ℕ → ℕ → ℕ → ℕ → List A → List A
 laid value wide s zero i at l = l
 laid value wide s (suc n) i at l = laid value wide s n (i + 1) (onward s at wide) (set l i (value s at))
 
--- every number of l from `from` up to `to` is x
-abbrev pub Are : List ℕ → ℕ → ℕ → ℕ → Type 0
-Are l from to x = (k : ℕ) → k < to → from ≤ k → get_or l k 0 ≡ x
+-- every number of l from `from` on is x
+abbrev pub Are : List ℕ → ℕ → ℕ → Type 0
+Are l from x = list_all (λ y. y == x) (drop from l) ≡ true
 
--- the numbers of l and m below `to` are the same
-abbrev pub Alike : List ℕ → List ℕ → ℕ → Type 0
-Alike l m to = (k : ℕ) → k < to → get_or l k 0 ≡ get_or m k 0
-
--- the records of w below `to` hold x twice
-abbrev pub Twice : List Rec → ℕ → ℕ → Type 0
-Twice w to x = (k : ℕ) → k < to → (formula_at w k ≡ x) × (term_at w k ≡ x)
+-- the records of w hold x twice
+abbrev pub Twice : ℕ → List Rec → Type 0
+Twice x w = All (λ r. (r.formula ≡ x) × (r.term ≡ x)) w
