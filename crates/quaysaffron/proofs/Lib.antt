@@ -1,3 +1,4 @@
+pub mod Mapped
 pub mod Pieces
 pub mod Printing
 pub mod Whole

@@ -43,24 +43,18 @@ fn read_rest<R: Read>(from: &mut R, buf: &mut [u8], start: usize) -> io::Result<
     Ok(done)
 }
 
-// Writes lines to the output. Only the contract looks at `file`: they are its lines.
-fn write_lines<W: Write>(out: &mut W, lines: &[u8], file: &[u8]) -> io::Result<()>
-    requires { lines.now ≡ printed file.now }
-    ensures { OnOk result (Appends (W.contents out.old) (W.contents out.new) (printed file.now)) }
-{
-    out.write_all(lines)
-}
-
 // Prints what the prover says of a file.
 fn print<W: Write>(out: &mut W, file: &[u8]) -> io::Result<()>
     ensures { OnOk result (Appends (W.contents out.old) (W.contents out.new) (printed file.now)) }
 {
-    let mut lines = [0u8; house_file::OUTPUT_BYTES];
-    let n = house_file::output(file, &mut lines);
-    write_lines(out, &lines[..n], file)
+    let mut buffer = [0u8; house_file::OUTPUT_BYTES];
+    let n = house_file::output(file, &mut buffer);
+    let lines = &buffer[..n];
+    out.write_all(lines)
 }
 
-// A byte more than a house file may have, which is enough to know that it has too many.
+// A byte more than a house file may have, which is enough to know that it has too many. The program takes no memory while it runs, so what
+// it reads stands in an array of this size.
 const MOST_READ: usize = 32769;
 
 // Which of the two the system refused.
@@ -76,13 +70,8 @@ fn answer<R: Read, W: Write>(from: &mut R, out: &mut W) -> Result<(), Failure>
         (λ file. Appends (W.contents out.old) (W.contents out.new) (printed file))) }
 {
     let mut file = [0u8; MOST_READ];
-    match read_rest(from, &mut file, 0) {
-        Ok(n) => match print(out, &file[..n]) {
-            Ok(()) => Ok(()),
-            Err(error) => Err(Failure::Writing(error)),
-        },
-        Err(error) => Err(Failure::Reading(error)),
-    }
+    let n = read_rest(from, &mut file, 0).map_err(|error| Failure::Reading(error))?;
+    print(out, &file[..n]).map_err(|error| Failure::Writing(error))
 }
 
 // Says what failed and why. That nobody listens changes no exit status.
