@@ -17,4 +17,4 @@ pub record Asked (assumed f t : List ℕ) (w : List Rec) (o : Outcome) (f1 t1 : 
 
 -- from the rest's places on, words and numbers are its value
 abbrev pub RestHolds : Rest → List ℕ → List ℕ → Type 0
-RestHolds x f t = Are f x.words (length f) x.value × Are t x.numbers (length t) x.value
+RestHolds x f t = Are f x.words x.value × Are t x.numbers x.value

@@ -1,3 +1,3 @@
 -- The definitions that the contracts of `test_runs` cite. Assumes nothing.
 pub mod Judged
-pub mod Seven
+pub mod Told

@@ -3,52 +3,73 @@ ghost use Rattle.std.specs.Prelude.{◌≤◌, ◌<◌, length};
 
 use test_rows::{after, field};
 
-// How many words it gives.
-pub fn given(s: &[u8], book: usize) -> usize
-    ensures { result < 4294967296 }
-{
-    field(s, book, 0)
+// Where a book begins.
+#[derive(Clone, Copy)]
+pub struct Book<'a> {
+    pub list: &'a [u8],
+    pub at: usize,
 }
 
-// How many assumptions it has.
-pub fn assumptions(s: &[u8], book: usize) -> usize
-    ensures { result < 4294967296 }
-{
-    field(s, book, 1)
-}
+impl<'a> Book<'a> {
+    // How many words it gives.
+    pub fn given(self) -> usize
+        ensures { result < 4294967296 }
+    {
+        field(self.list, self.at, 0)
+    }
 
-pub fn words_at(s: &[u8], book: usize) -> usize
-    ensures { result ≤ length s.now }
-{
-    test_rows::skip(s, book, 4)
-}
+    // How many assumptions it has.
+    pub fn assumptions(self) -> usize
+        ensures { result < 4294967296 }
+    {
+        field(self.list, self.at, 1)
+    }
 
-pub fn indices_at(s: &[u8], book: usize) -> usize
-    ensures { result ≤ length s.now }
-{
-    after(s, words_at(s, book), 4 * field(s, book, 0))
-}
+    // How many numbers its term has.
+    pub fn numbers(self) -> usize
+        ensures { result < 4294967296 }
+    {
+        field(self.list, self.at, 3)
+    }
 
-pub fn names_at(s: &[u8], book: usize) -> usize
-    ensures { result ≤ length s.now }
-{
-    after(s, indices_at(s, book), 2 * field(s, book, 1))
-}
+    pub fn words_at(self) -> usize
+        ensures { result ≤ length self.entry.list.now }
+    {
+        test_rows::skip(self.list, self.at, 4)
+    }
 
-pub fn numbers_at(s: &[u8], book: usize) -> usize
-    ensures { result ≤ length s.now }
-{
-    after(s, names_at(s, book), field(s, book, 2))
-}
+    pub fn indices_at(self) -> usize
+        ensures { result ≤ length self.entry.list.now }
+    {
+        after(self.list, self.words_at(), 4 * self.given())
+    }
 
-// Where the next row begins.
-pub fn end(s: &[u8], book: usize) -> usize
-    ensures { result ≤ length s.now }
-{
-    after(s, numbers_at(s, book), 2 * field(s, book, 3))
-}
+    fn names_at(self) -> usize
+        ensures { result ≤ length self.entry.list.now }
+    {
+        after(self.list, self.indices_at(), 2 * self.assumptions())
+    }
 
-// The text of the names.
-pub fn names<'a>(s: &'a [u8], book: usize) -> &'a [u8] {
-    test_rows::part(s, names_at(s, book), field(s, book, 2))
+    // How many bytes its names have.
+    fn names_bytes(self) -> usize {
+        field(self.list, self.at, 2)
+    }
+
+    // The text of the names.
+    pub fn names(self) -> &'a [u8] {
+        test_rows::part(self.list, self.names_at(), self.names_bytes())
+    }
+
+    pub fn numbers_at(self) -> usize
+        ensures { result ≤ length self.entry.list.now }
+    {
+        after(self.list, self.names_at(), self.names_bytes())
+    }
+
+    // Where the next row begins.
+    pub fn end(self) -> usize
+        ensures { result ≤ length self.entry.list.now }
+    {
+        after(self.list, self.numbers_at(), 2 * self.numbers())
+    }
 }

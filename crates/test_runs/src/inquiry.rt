@@ -1,83 +1,67 @@
 // The status of a goal through its public call.
 ghost use Rattle.std.specs.Prelude.{◌≡◌};
-ghost use Rattle.test_runs.specs.Seven.{told};
+ghost use Rattle.test_runs.specs.Told.{told};
 
 use crate::search::Rest;
-use crate::{Answer, book};
+use crate::{Answer, Call, Field, NO_CALL, Row};
 use context::Record;
 use status::Status;
-use test_rows::field;
 
 // The verdict stands in the root's place: 1 Solvable, 2 Unsolvable, 3 Unknown.
-fn seven(status: Status) -> [usize; 7]
+fn numbers(status: Status) -> Call
     ensures { result ≡ told status }
 {
     match status {
-        Status::Solvable => [0, 0, 1, 0, 0, 0, 0],
-        Status::Unsolvable => [0, 0, 2, 0, 0, 0, 0],
-        Status::Unknown => [0, 0, 3, 0, 0, 0, 0],
-        Status::Short { number, steps } => [number, 0, 0, steps, 0, 0, 0],
-        Status::Refused { number, place } => [number, place, 0, 0, 0, 0, 0],
+        Status::Solvable => Call { root: 1, ..NO_CALL },
+        Status::Unsolvable => Call { root: 2, ..NO_CALL },
+        Status::Unknown => Call { root: 3, ..NO_CALL },
+        Status::Short { number, steps } => Call {
+            number,
+            steps,
+            ..NO_CALL
+        },
+        Status::Refused { number, place } => Call {
+            number,
+            place,
+            ..NO_CALL
+        },
     }
 }
 
 // What the slices hold behind the given words: junk still after a refusal, or else zero.
-fn left_over(number: usize, junk: u8) -> u8 {
-    if number == 0 {
-        return 0;
+fn left_over(row: Row, status: Status) -> Rest {
+    Rest {
+        words: row.book.given(),
+        numbers: 0,
+        value: match status {
+            Status::Refused {
+                number: _,
+                place: _,
+            } => row.junk(),
+            _ => 0,
+        },
     }
-    if number < 6 {
-        return junk;
-    }
-    0
 }
 
-// Everything judged but the work area.
-fn judge(
-    s: &[u8],
-    row: usize,
-    book: usize,
-    f: &[u32],
-    t: &[u16],
-    call: [usize; 7],
-    cleared: bool,
+// Asks the status, and judges what the slices hold.
+pub fn answer(
+    row: Row,
+    words: &mut [u32],
+    terms: &mut [u16],
+    work: &mut [Record],
     text: &[u8],
 ) -> Answer {
-    let junk = crate::junk(s, row);
-    let rest = Rest {
-        words: book::given(s, book),
-        numbers: 0,
-        value: left_over(call[0], junk),
-    };
-    let stands = crate::search::kept(s, book, f, t, rest);
-    let untouched = test_rows::bytes_are(text, 0, junk);
+    let goal = row.field(Field::Goal);
+    let steps = row.field(Field::Steps);
+    let status = status::solvable_status(words, row.count(), goal, terms, work, steps);
+    let rest = left_over(row, status);
     Answer {
-        call,
+        call: numbers(status),
         writer: 0,
         length: 0,
         checksum: 0,
-        kept: crate::search::all(stands, cleared, untouched),
+        kept: crate::search::kept(row, words, terms, rest)
+            && test_rows::records_are(work, u16::from(rest.value))
+            && test_rows::all_are(text, 0, row.junk()),
     }
-}
-
-fn wide(b: u8) -> usize {
-    b as usize
-}
-
-pub fn answer(
-    s: &[u8],
-    row: usize,
-    book: usize,
-    f: &mut [u32],
-    t: &mut [u16],
-    w: &mut [Record],
-    text: &[u8],
-) -> Answer {
-    let count = book::given(s, book) + field(s, row, crate::SURPLUS);
-    let goal = field(s, row, crate::GOAL);
-    let steps = field(s, row, crate::STEPS);
-    let call = seven(status::solvable_status(f, count, goal, t, w, steps));
-    let value = wide(left_over(call[0], crate::junk(s, row)));
-    let cleared = test_rows::records_are(w, value);
-    judge(s, row, book, f, t, call, cleared, text)
 }

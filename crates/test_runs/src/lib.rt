@@ -2,51 +2,18 @@
 // One row of a list through the public calls: a claim is searched and its term written, a given term is written alone, the status of a
 // goal is asked, or a house file is answered.
 //
-// A row is eleven numbers (HEAD), what its program adds, and its book, unless it says again that of the row before. A book is four
+// A row is eleven numbers (Field), what its program adds, and its book, unless it says again that of the row before. A book is four
 // numbers, how many words, assumptions, bytes of names and numbers of a given term; then the words, the indices, the names, the numbers.
 // The bytes of a house file stand in the place of the names.
 mod book;
 mod house;
 mod inquiry;
+mod row;
 mod search;
 mod writer;
 
-pub use book::end as book_end;
-use test_rows::field;
-
-// The kinds of rows.
-pub const CLAIM: usize = 0;
-
-pub const TERM: usize = 1;
-
-pub const STATUS: usize = 2;
-
-pub const FILE: usize = 3;
-
-// The numbers of a row, by their places.
-pub const HEAD: usize = 11;
-
-const KIND: usize = 0;
-
-const AGAIN: usize = 1;
-
-const WORDS: usize = 2;
-
-const NUMBERS: usize = 3;
-
-const RECORDS: usize = 4;
-
-const STEPS: usize = 5;
-
-const TEXT: usize = 6;
-
-const JUNK: usize = 7;
-
-const SURPLUS: usize = 8;
-
-const NODES: usize = 9;
-
-const GOAL: usize = 10;
+pub use book::Book;
+pub use row::{Field, Kind, Row, again, behind_head};
 
 // The most bytes that come back: what the program prints for a house file.
 pub const MOST_TEXT: usize = 32835;
@@ -56,40 +23,44 @@ const MOST_WORDS: usize = 16385;
 
 const MOST_NUMBERS: usize = 98310;
 
-// What came back: the seven numbers of the call (of a status, the verdict in the root's place), the writer's number, the length and the
-// checksum of the text, and whether each lent slice holds what document 01 says.
-#[derive(Clone, Copy)]
+// The numbers of a call, in document 01's order; of a status, the verdict stands in the root's place.
+#[derive(Clone, Copy, PartialEq, Eq)]
+pub struct Call {
+    pub number: usize,
+    pub place: usize,
+    pub root: usize,
+    pub steps: usize,
+    pub indices: usize,
+    pub formulas: usize,
+    pub terms: usize,
+}
+
+const NO_CALL: Call = Call {
+    number: 0,
+    place: 0,
+    root: 0,
+    steps: 0,
+    indices: 0,
+    formulas: 0,
+    terms: 0,
+};
+
+// What came back: the numbers of the call, the writer's number, the length and the checksum of the text, and whether each lent slice holds
+// what document 01 says.
+#[derive(Clone, Copy, PartialEq, Eq)]
 pub struct Answer {
-    pub call: [usize; 7],
+    pub call: Call,
     pub writer: usize,
     pub length: usize,
     pub checksum: usize,
     pub kept: bool,
 }
 
-// What every lent slice holds where the row gives nothing.
-pub fn junk(s: &[u8], row: usize) -> u8 {
-    (field(s, row, JUNK) % 256) as u8
-}
-
-// The row has the book of the row before.
-pub fn again(s: &[u8], row: usize) -> bool {
-    field(s, row, AGAIN) != 0
-}
-
-// What the row asks for; a number that is none of the kinds asks for a claim.
-pub fn kind(s: &[u8], row: usize) -> usize {
-    field(s, row, KIND)
-}
-
 // Runs a row; the text is written to the front of a buffer that holds junk.
-pub fn run(s: &[u8], row: usize, book: usize, text: &mut [u8; MOST_TEXT]) -> Answer {
-    let kind = kind(s, row);
-    if kind == TERM {
-        return writer::run(s, row, book, text);
+pub fn run(row: Row, text: &mut [u8; MOST_TEXT]) -> Answer {
+    match row.kind() {
+        Kind::Term => writer::run(row, text),
+        Kind::File => house::run(row, text),
+        Kind::Claim | Kind::Status => search::run(row, text),
     }
-    if kind == FILE {
-        return house::run(s, book, text);
-    }
-    search::run(s, row, book, text)
 }

@@ -1,21 +1,20 @@
 // A claim through the public call, and its term through the writer. The lent slices serve the status too.
-ghost use Rattle.std.specs.Prelude.{◌≡◌, true, ◌&&◌, length};
+ghost use Rattle.std.specs.Prelude.{◌≡◌, true, length};
 ghost use Rattle.call.specs.Outcomes.{numbers_of};
 ghost use Rattle.test_runs.specs.Judged.{Asked, RestHolds};
-ghost use Rattle.test_runs.specs.Seven.{seven as Seven·seven};
+ghost use Rattle.test_runs.specs.Told.{call_of};
 
-use crate::writer::Written;
-use crate::{Answer, MOST_NUMBERS, MOST_WORDS, book};
+use crate::writer::{Draft, Written};
+use crate::{Answer, Call, Field, Kind, MOST_NUMBERS, MOST_WORDS, NO_CALL, Row};
 use call::Outcome;
 use context::Record;
-use test_rows::{at_most, field};
 
 // One more than document 01 allows.
 const MOST_ASSUMPTIONS: usize = 65;
 
 // The numbers that come back.
-fn seven(outcome: Outcome) -> [usize; 7]
-    ensures { result ≡ Seven·seven (numbers_of outcome) }
+fn numbers(outcome: Outcome) -> Call
+    ensures { result ≡ call_of (numbers_of outcome) }
 {
     match outcome {
         Outcome::Proved {
@@ -24,43 +23,63 @@ fn seven(outcome: Outcome) -> [usize; 7]
             indices,
             formulas,
             terms,
-        } => [0, 0, root, steps, indices, formulas, terms],
+        } => Call {
+            root,
+            steps,
+            indices,
+            formulas,
+            terms,
+            ..NO_CALL
+        },
         Outcome::Unprovable {
             steps,
             indices,
             formulas,
             terms,
-        } => [0, 0, 0, steps, indices, formulas, terms],
-        Outcome::Short { number, steps } => [number, 0, 0, steps, 0, 0, 0],
-        Outcome::Refused { number, place } => [number, place, 0, 0, 0, 0, 0],
+        } => Call {
+            steps,
+            indices,
+            formulas,
+            terms,
+            ..NO_CALL
+        },
+        Outcome::Short { number, steps } => Call {
+            number,
+            steps,
+            ..NO_CALL
+        },
+        Outcome::Refused { number, place } => Call {
+            number,
+            place,
+            ..NO_CALL
+        },
     }
 }
 
 // Reads the words and the assumptions' indices of a book.
-fn read(s: &[u8], book: usize, assumed: &mut [u16], f: &mut [u32])
+fn read(row: Row, assumed: &mut [u16], words: &mut [u32])
     ensures { length assumed.new ≡ length assumed.old }
 {
-    test_rows::read_words(s, book::words_at(s, book), book::given(s, book), f);
-    test_rows::read_halves(s, book::indices_at(s, book), assumed.len(), assumed);
+    let book = row.book;
+    test_rows::read(book.list, book.words_at(), book.given(), words);
+    test_rows::read(book.list, book.indices_at(), assumed.len(), assumed);
 }
 
 // Asks the public call.
-pub fn ask(
-    s: &[u8],
-    row: usize,
-    book: usize,
+fn ask(
+    row: Row,
     assumed: &[u16],
-    f: &mut [u32],
-    t: &mut [u16],
-    w: &mut [Record],
+    words: &mut [u32],
+    terms: &mut [u16],
+    work: &mut [Record],
 ) -> Outcome
-    ensures { Asked assumed.now f.old t.old w.old result
-        f.new t.new w.new }
+    ensures { Asked assumed.now words.old terms.old work.old result
+        words.new terms.new work.new }
 {
-    let count = book::given(s, book) + field(s, row, crate::SURPLUS);
-    let goal = field(s, row, crate::GOAL);
-    let steps = field(s, row, crate::STEPS);
-    prove::prove(f, count, assumed, book::names(s, book), goal, t, w, steps)
+    let goal = row.field(Field::Goal);
+    let steps = row.field(Field::Steps);
+    let names = row.book.names();
+    prove::prove(words, row.count(), assumed, names, goal, terms, work, steps)
 }
 
 // What lies above the given words and the nodes that stay: zero after an answer or a shortage, junk still after a refusal.
@@ -71,8 +90,12 @@ pub struct Rest {
     pub value: u8,
 }
 
-fn left_over(s: &[u8], row: usize, book: usize, outcome: Outcome) -> Rest {
-    let given = book::given(s, book);
+fn left_over(row: Row, outcome: Outcome) -> Rest {
+    let bare = Rest {
+        words: row.book.given(),
+        numbers: 0,
+        value: 0,
+    };
     match outcome {
         Outcome::Proved {
             root: _,
@@ -82,7 +105,7 @@ fn left_over(s: &[u8], row: usize, book: usize, outcome: Outcome) -> Rest {
             terms,
         } => Rest {
             words: formulas,
-            numbers: proof_term::WIDTH * at_most(terms, MOST_NUMBERS),
+            numbers: proof_term::WIDTH * terms.min(MOST_NUMBERS),
             value: 0,
         },
         Outcome::Unprovable {
@@ -92,166 +115,119 @@ fn left_over(s: &[u8], row: usize, book: usize, outcome: Outcome) -> Rest {
             terms: _,
         } => Rest {
             words: formulas,
-            numbers: 0,
-            value: 0,
+            ..bare
         },
         Outcome::Short {
             number: _,
             steps: _,
-        } => Rest {
-            words: given,
-            numbers: 0,
-            value: 0,
-        },
+        } => bare,
         Outcome::Refused {
             number: _,
             place: _,
         } => Rest {
-            words: given,
-            numbers: 0,
-            value: crate::junk(s, row),
+            value: row.junk(),
+            ..bare
         },
     }
-}
-
-// What each half of a record is.
-fn record_value(s: &[u8], row: usize, outcome: Outcome) -> usize {
-    left_over(s, row, row, outcome).value as usize
 }
 
 // The given words stand, and the rest of words and numbers is as it must be.
-pub fn kept(s: &[u8], book: usize, f: &[u32], t: &[u16], rest: Rest) -> bool
-    ensures { result ≡ true → RestHolds rest f.now t.now }
+pub fn kept(row: Row, words: &[u32], terms: &[u16], rest: Rest) -> bool
+    ensures { result ≡ true → RestHolds rest words.now terms.now }
 {
-    if test_rows::words_stand(s, book::words_at(s, book), book::given(s, book), f) {
-        if test_rows::words_are(f, rest.words, rest.value as u32) {
-            return test_rows::halves_are(t, rest.numbers, rest.value as u16);
-        }
-    }
-    false
+    let book = row.book;
+    test_rows::words_stand(book.list, book.words_at(), book.given(), words)
+        && test_rows::all_are(words, rest.words, u32::from(rest.value))
+        && test_rows::all_are(terms, rest.numbers, u16::from(rest.value))
 }
 
-// The term of an outcome, written.
+// The term of an outcome, written; nothing of any other.
 fn write(
-    s: &[u8],
-    book: usize,
-    f: &[u32],
-    t: &[u16],
+    row: Row,
+    words: &[u32],
+    terms: &[u16],
     outcome: Outcome,
     text: &mut [u8],
-) -> Written {
-    match outcome {
-        Outcome::Proved {
-            root,
-            steps: _,
-            indices: _,
-            formulas,
-            terms,
-        } => crate::writer::write(s, book, f, formulas, t, terms, root, text),
-        Outcome::Unprovable {
-            steps: _,
-            indices: _,
-            formulas: _,
-            terms: _,
-        } => crate::writer::unwritten(),
-        Outcome::Short {
-            number: _,
-            steps: _,
-        } => crate::writer::unwritten(),
-        Outcome::Refused {
-            number: _,
-            place: _,
-        } => crate::writer::unwritten(),
-    }
+) -> Option<Written> {
+    let Outcome::Proved {
+        root,
+        steps: _,
+        indices: _,
+        formulas,
+        terms: nodes,
+    } = outcome
+    else {
+        return None;
+    };
+    let draft = Draft {
+        words,
+        count: formulas,
+        assumptions: row.book.assumptions(),
+        names: row.book.names(),
+        terms,
+        nodes,
+        root,
+    };
+    Some(crate::writer::write(draft, text))
 }
 
-pub fn all(a: bool, b: bool, c: bool) -> bool
-    ensures { result ≡ (a && (b && c)) }
-{
-    if a {
-        if b {
-            return c;
-        }
-    }
-    false
-}
-
-// The term written, and everything judged but the work area.
-fn judge(
-    s: &[u8],
-    row: usize,
-    book: usize,
-    f: &[u32],
-    t: &[u16],
-    outcome: Outcome,
-    cleared: bool,
+// Asks the call, writes the term, and judges what the slices hold.
+fn answer(
+    row: Row,
+    assumed: &[u16],
+    words: &mut [u32],
+    terms: &mut [u16],
+    work: &mut [Record],
     text: &mut [u8],
 ) -> Answer {
-    let stands = kept(s, book, f, t, left_over(s, row, book, outcome));
-    let written = write(s, book, f, t, outcome, text);
-    let right = crate::writer::kept(text, written, crate::junk(s, row));
+    let outcome = ask(row, assumed, words, terms, work);
+    let rest = left_over(row, outcome);
+    let stands = kept(row, words, terms, rest);
+    let cleared = test_rows::records_are(work, u16::from(rest.value));
+    let written = write(row, words, terms, outcome, text);
+    let right = crate::writer::kept(text, written, row.junk());
+    let (writer, length) = crate::writer::told(written);
     Answer {
-        call: seven(outcome),
-        writer: written.number,
-        length: written.length,
-        checksum: crate::writer::checksum(text, written.length),
-        kept: all(stands, cleared, right),
+        call: numbers(outcome),
+        writer,
+        length,
+        checksum: crate::writer::checksum(text, length),
+        kept: stands && cleared && right,
     }
-}
-
-pub fn answer(
-    s: &[u8],
-    row: usize,
-    book: usize,
-    assumed: &mut [u16],
-    f: &mut [u32],
-    t: &mut [u16],
-    w: &mut [Record],
-    text: &mut [u8],
-) -> Answer {
-    read(s, book, assumed, f);
-    if crate::kind(s, row) == crate::STATUS {
-        return crate::inquiry::answer(s, row, book, f, t, w, text);
-    }
-    let outcome = ask(s, row, book, assumed, f, t, w);
-    let cleared = test_rows::records_are(w, record_value(s, row, outcome));
-    judge(s, row, book, f, t, outcome, cleared, text)
 }
 
 // Lends as much of each slice as the row says.
-pub fn lend(
-    s: &[u8],
-    row: usize,
-    book: usize,
+fn lend(
+    row: Row,
     assumed: &mut [u16],
-    f: &mut [u32],
-    t: &mut [u16],
-    w: &mut [Record],
+    words: &mut [u32],
+    terms: &mut [u16],
+    work: &mut [Record],
     text: &mut [u8],
 ) -> Answer {
-    let assumptions = at_most(book::assumptions(s, book), assumed.len());
-    let words = at_most(field(s, row, crate::WORDS), f.len());
-    let numbers = at_most(field(s, row, crate::NUMBERS), t.len());
-    let records = at_most(field(s, row, crate::RECORDS), w.len());
-    let room = at_most(field(s, row, crate::TEXT), text.len());
-    answer(
-        s,
-        row,
-        book,
-        &mut assumed[..assumptions],
-        &mut f[..words],
-        &mut t[..numbers],
-        &mut w[..records],
-        &mut text[..room],
-    )
+    let assumptions = row.book.assumptions().min(assumed.len());
+    let given = row.field(Field::Words).min(words.len());
+    let numbers = row.field(Field::Numbers).min(terms.len());
+    let records = row.field(Field::Records).min(work.len());
+    let room = row.field(Field::Text).min(text.len());
+    let assumed = &mut assumed[..assumptions];
+    let words = &mut words[..given];
+    let terms = &mut terms[..numbers];
+    let work = &mut work[..records];
+    let text = &mut text[..room];
+    read(row, assumed, words);
+    if row.kind() == Kind::Status {
+        return crate::inquiry::answer(row, words, terms, work, text);
+    }
+    answer(row, assumed, words, terms, work, text)
 }
 
 // Runs a claim, or asks a status, over slices full of junk. The work area is made here and lent from here on.
-pub fn run(s: &[u8], row: usize, book: usize, text: &mut [u8]) -> Answer {
-    let junk = crate::junk(s, row);
+pub fn run(row: Row, text: &mut [u8]) -> Answer {
+    let junk = row.junk();
     let mut assumed = [0u16; MOST_ASSUMPTIONS];
-    let mut f = [junk as u32; MOST_WORDS];
-    let mut t = [junk as u16; MOST_NUMBERS];
-    let mut w = test_rows::filled(junk as u16);
-    lend(s, row, book, &mut assumed, &mut f, &mut t, &mut w, text)
+    let mut words = [u32::from(junk); MOST_WORDS];
+    let mut terms = [u16::from(junk); MOST_NUMBERS];
+    let mut work = test_rows::filled(u16::from(junk));
+    lend(row, &mut assumed, &mut words, &mut terms, &mut work, text)
 }

@@ -1,171 +1,138 @@
 // A term through the writer.
 ghost use Rattle.std.specs.Prelude.{◌<◌};
 
-use crate::{Answer, MOST_NUMBERS, MOST_WORDS, book};
-use test_rows::{at_most, field};
+use crate::{Answer, Call, Field, MOST_NUMBERS, MOST_WORDS, NO_CALL, Row};
 
 // What the spare buffer holds before the writer is asked.
 const SPARE: u8 = 90;
 
-// What the writer gave: its number and place, how many bytes, and whether its two forms gave the same.
 #[derive(Clone, Copy)]
-pub struct Written {
-    pub asked: bool,
-    pub number: usize,
-    pub place: usize,
-    pub length: usize,
-    pub alike: bool,
+pub struct Draft<'a> {
+    pub words: &'a [u32],
+    pub count: usize,
+    pub assumptions: usize,
+    pub names: &'a [u8],
+    pub terms: &'a [u16],
+    pub nodes: usize,
+    pub root: usize,
 }
 
-// What a writer gives that is not asked.
-pub fn unwritten() -> Written {
-    Written {
-        asked: false,
-        number: 0,
-        place: 0,
-        length: 0,
-        alike: true,
+#[derive(Clone, Copy, PartialEq, Eq)]
+pub struct Fault(usize, usize);
+
+impl Fault {
+    fn number(self) -> usize {
+        self.0
+    }
+
+    fn place(self) -> usize {
+        self.1
     }
 }
 
-// Asks the writer for a length, with the text at the front of the buffer.
-fn fill(
-    list: &[u8],
-    book: usize,
-    words: &[u32],
-    count: usize,
-    terms: &[u16],
-    nodes: usize,
-    root: usize,
-    text: &mut [u8],
-) -> Written {
+fn result(length: usize, number: usize, place: usize) -> Result<usize, Fault> {
+    if number == 0 {
+        Ok(length)
+    } else {
+        Err(Fault(number, place))
+    }
+}
+
+fn write_text(draft: Draft, text: &mut [u8]) -> Result<usize, Fault> {
     let mut number = 0;
     let mut place = 0;
     let length = house_text::write_text(
-        words,
-        count,
-        book::assumptions(list, book),
-        book::names(list, book),
-        terms,
-        nodes,
-        root,
+        draft.words,
+        draft.count,
+        draft.assumptions,
+        draft.names,
+        draft.terms,
+        draft.nodes,
+        draft.root,
         text,
         &mut number,
         &mut place,
     );
-    Written {
-        asked: true,
-        number,
-        place,
-        length,
-        alike: true,
+    result(length, number, place)
+}
+
+// What the writer gave: how many bytes, or its refusal, and whether its two forms gave the same.
+#[derive(Clone, Copy)]
+pub struct Written {
+    pub given: Result<usize, Fault>,
+    pub alike: bool,
+}
+
+// The writer's number and how many bytes it wrote; 0 of both where it was not asked.
+pub fn told(written: Option<Written>) -> (usize, usize) {
+    match written {
+        Some(
+            Written {
+                given: Ok(length),
+                alike: _,
+            },
+        ) => (0, length),
+        Some(
+            Written {
+                given: Err(refusal),
+                alike: _,
+            },
+        ) => (refusal.number(), 0),
+        None => (0, 0),
     }
 }
 
-// Both forms gave the same number, place and length, and the spare buffer holds what it must.
-fn agree(filled: Written, handed: Written, spare: &[u8]) -> bool {
-    if filled.number != handed.number {
-        return false;
-    }
-    if filled.place != handed.place {
-        return false;
-    }
-    if filled.length != handed.length {
-        return false;
-    }
-    kept(spare, handed, SPARE)
-}
-
-// Asks the writer for the text as a part of a buffer, and holds it against what `fill` gave, with the text at its front.
-fn hand(
-    list: &[u8],
-    book: usize,
-    words: &[u32],
-    count: usize,
-    terms: &[u16],
-    nodes: usize,
-    root: usize,
-    spare: &mut [u8],
-    filled: Written,
-    text: &[u8],
-) -> bool {
+// Asks the writer for the text as a part of a buffer, and holds it against what came of the other form, whose text stands at the front.
+fn alike(draft: Draft, spare: &mut [u8], given: Result<usize, Fault>, text: &[u8]) -> bool {
     let mut number = 0;
     let mut place = 0;
     let part = house_text::write(
-        words,
-        count,
-        book::assumptions(list, book),
-        book::names(list, book),
-        terms,
-        nodes,
-        root,
+        draft.words,
+        draft.count,
+        draft.assumptions,
+        draft.names,
+        draft.terms,
+        draft.nodes,
+        draft.root,
         spare,
         &mut number,
         &mut place,
     );
     let length = part.len();
-    let alike = test_rows::begins_with(text, part);
-    let handed = Written {
-        asked: true,
-        number,
-        place,
-        length,
-        alike,
-    };
-    agree(filled, handed, spare)
+    let alike = text.starts_with(part);
+    let handed = result(length, number, place);
+    handed == given
+        && kept(
+            spare,
+            Some(Written {
+                given: handed,
+                alike,
+            }),
+            SPARE,
+        )
 }
 
 // Asks the writer in both of its forms, each over a buffer of its own and as long.
-pub fn write(
-    list: &[u8],
-    book: usize,
-    words: &[u32],
-    count: usize,
-    terms: &[u16],
-    nodes: usize,
-    root: usize,
-    text: &mut [u8],
-) -> Written {
-    let mut written = fill(list, book, words, count, terms, nodes, root, text);
+pub fn write(draft: Draft, text: &mut [u8]) -> Written {
+    let given = write_text(draft, text);
     let mut spare = [SPARE; crate::MOST_TEXT];
-    let room = at_most(text.len(), crate::MOST_TEXT);
-    let alike = hand(
-        list,
-        book,
-        words,
-        count,
-        terms,
-        nodes,
-        root,
-        &mut spare[..room],
-        written,
-        text,
-    );
-    written.alike = alike;
-    written
+    let room = text.len().min(crate::MOST_TEXT);
+    let alike = alike(draft, &mut spare[..room], given, text);
+    Written { given, alike }
 }
 
-// Behind the text the buffer is zero, and so is all of it after 12; a writer that refused or was not asked left it as it was. Where the two
-// forms differ, nothing is as it must be.
-pub fn kept(text: &[u8], written: Written, junk: u8) -> bool {
-    if !written.alike {
-        return false;
-    }
-    if written.asked {
-        if written.number == 0 {
-            return test_rows::bytes_are(text, written.length, 0);
+// Behind the text the buffer is zero, and so is all of it where it had no room; a writer that refused or was not asked left it as it was.
+// Where the two forms differ, nothing is as it must be.
+pub fn kept(text: &[u8], written: Option<Written>, junk: u8) -> bool {
+    let Some(written) = written else {
+        return test_rows::all_are(text, 0, junk);
+    };
+    written.alike
+        && match written.given {
+            Ok(length) => test_rows::all_are(text, length, 0),
+            Err(Fault(12, _)) => test_rows::all_are(text, 0, 0),
+            Err(Fault(_, _)) => test_rows::all_are(text, 0, junk),
         }
-        if written.number == 12 {
-            return test_rows::bytes_are(text, 0, 0);
-        }
-    }
-    test_rows::bytes_are(text, 0, junk)
-}
-
-fn wide(b: u8) -> usize
-    ensures { result < 256 }
-{
-    b as usize
 }
 
 // The Adler-32 of the first n bytes, 0 of none.
@@ -175,83 +142,62 @@ pub fn checksum(text: &[u8], n: usize) -> usize
     if n == 0 {
         return 0;
     }
-    let end = at_most(n, text.len());
     let mut low = 1;
     let mut high = 0;
-    let mut i = 0;
-    while i < end {
-        low = (low + wide(text[i])) % 65521;
+    for b in &text[..n.min(text.len())] {
+        low = (low + usize::from(*b)) % 65521;
         high = (high + low) % 65521;
-        i += 1;
     }
     high * 65536 + low
 }
 
 // Writes the term of a row, and tells what came back.
-fn answer(
-    list: &[u8],
-    row: usize,
-    book: usize,
-    words: &[u32],
-    terms: &[u16],
-    text: &mut [u8],
-) -> Answer {
-    let count = book::given(list, book) + field(list, row, crate::SURPLUS);
-    let nodes = field(list, row, crate::NODES);
-    let root = field(list, row, crate::GOAL);
-    let written = write(list, book, words, count, terms, nodes, root, text);
+fn answer(row: Row, words: &[u32], terms: &[u16], text: &mut [u8]) -> Answer {
+    let draft = Draft {
+        words,
+        count: row.count(),
+        assumptions: row.book.assumptions(),
+        names: row.book.names(),
+        terms,
+        nodes: row.field(Field::Nodes),
+        root: row.field(Field::Goal),
+    };
+    let written = write(draft, text);
+    let (number, length) = told(Some(written));
+    let place = written.given.err().map_or(0, |refusal| refusal.place());
     Answer {
-        call: [written.number, written.place, 0, 0, 0, 0, 0],
-        writer: written.number,
-        length: written.length,
-        checksum: checksum(text, written.length),
-        kept: kept(text, written, crate::junk(list, row)),
+        call: Call {
+            number,
+            place,
+            ..NO_CALL
+        },
+        writer: number,
+        length,
+        checksum: checksum(text, length),
+        kept: kept(text, Some(written), row.junk()),
     }
 }
 
 // Reads the words and the term of a book.
-fn read(list: &[u8], book: usize, words: &mut [u32], terms: &mut [u16]) {
-    test_rows::read_words(
-        list,
-        book::words_at(list, book),
-        book::given(list, book),
-        words,
-    );
-    test_rows::read_halves(
-        list,
-        book::numbers_at(list, book),
-        field(list, book, 3),
-        terms,
-    );
+fn read(row: Row, words: &mut [u32], terms: &mut [u16]) {
+    let book = row.book;
+    test_rows::read(book.list, book.words_at(), book.given(), words);
+    test_rows::read(book.list, book.numbers_at(), book.numbers(), terms);
 }
 
 // Lends as much of each slice as the row says.
-fn lend(
-    list: &[u8],
-    row: usize,
-    book: usize,
-    words: &[u32],
-    terms: &[u16],
-    text: &mut [u8],
-) -> Answer {
-    let given = at_most(field(list, row, crate::WORDS), words.len());
-    let numbers = at_most(field(list, row, crate::NUMBERS), terms.len());
-    let room = at_most(field(list, row, crate::TEXT), text.len());
-    answer(
-        list,
-        row,
-        book,
-        &words[..given],
-        &terms[..numbers],
-        &mut text[..room],
-    )
+fn lend(row: Row, words: &[u32], terms: &[u16], text: &mut [u8]) -> Answer {
+    let given = row.field(Field::Words).min(words.len());
+    let numbers = row.field(Field::Numbers).min(terms.len());
+    let room = row.field(Field::Text).min(text.len());
+    answer(row, &words[..given], &terms[..numbers], &mut text[..room])
 }
 
 // Writes a given term, over slices full of junk.
-pub fn run(list: &[u8], row: usize, book: usize, text: &mut [u8]) -> Answer {
-    let junk = crate::junk(list, row);
-    let mut words = [junk as u32; MOST_WORDS];
-    let mut terms = [junk as u16; MOST_NUMBERS];
-    read(list, book, &mut words, &mut terms);
-    lend(list, row, book, &words, &terms, text)
+pub fn run(row: Row, text: &mut [u8]) -> Answer {
+    let junk = row.junk();
+    let mut words = [u32::from(junk); MOST_WORDS];
+    let mut terms = [u16::from(junk); MOST_NUMBERS];
+    read(row, &mut words, &mut terms);
+    lend(row, &words, &terms, text)
 }
