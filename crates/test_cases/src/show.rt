@@ -1,163 +1,122 @@
 // What came back, as words.
-use std::io;
 use std::io::Write;
-use test_lists::{number, text};
-use test_runs::Answer;
+use std::{fmt, io};
+use test_runs::{Answer, Call, Kind};
 
-// The names of document 01's table.
-fn fault<W: Write>(out: &mut W, n: usize) -> io::Result<()> {
-    match n {
-        1 => text(out, b" Sizes"),
-        2 => text(out, b" BadFormula"),
-        3 => text(out, b" BadAssumption"),
-        4 => text(out, b" BadNames"),
-        5 => text(out, b" BadGoal"),
-        6 => text(out, b" Steps"),
-        7 => text(out, b" Names"),
-        8 => text(out, b" Formulas"),
-        9 => text(out, b" Terms"),
-        10 => text(out, b" Contexts"),
-        11 => text(out, b" Levels"),
-        12 => text(out, b" NoRoom"),
-        13 => text(out, b" BadTerm"),
-        _ => text(out, b" BadFile"),
+// The names of document 01's table, the first at 1.
+const FAULTS: [&str; 14] = [
+    "Sizes",
+    "BadFormula",
+    "BadAssumption",
+    "BadNames",
+    "BadGoal",
+    "Steps",
+    "Names",
+    "Formulas",
+    "Terms",
+    "Contexts",
+    "Levels",
+    "NoRoom",
+    "BadTerm",
+    "BadFile",
+];
+
+// A number of that table, shown with its name.
+#[derive(Drop)]
+struct Fault(usize);
+
+impl fmt::Display for Fault {
+    fn fmt<W: fmt::Write>(&self, f: &mut fmt::Formatter<W>) -> fmt::Result {
+        let number = self.0;
+        let name = FAULTS
+            .get(number.wrapping_sub(1))
+            .copied()
+            .unwrap_or("BadFile");
+        write!(f, "{number} {name}")
     }
 }
 
 // A refusal has a place, a shortage has steps.
-fn refused<W: Write>(out: &mut W, call: [usize; 7]) -> io::Result<()> {
-    let n = call[0];
-    number(out, b"", n)?;
-    fault(out, n)?;
-    if n < 6 {
-        return number(out, b", place ", call[1]);
+fn missed<W: Write>(out: &mut W, call: Call) -> io::Result<()> {
+    let fault = Fault(call.number);
+    match call.number {
+        6..=11 => write!(out, "{fault}, steps {}", call.steps),
+        _ => write!(out, "{fault}, place {}", call.place),
     }
-    if 11 < n {
-        return number(out, b", place ", call[1]);
-    }
-    number(out, b", steps ", call[3])
 }
 
 // A text of at most this many bytes is shown, a longer one told by its length and its checksum.
 const SHOWN: usize = 160;
 
 // The text, or the number of a writer that wrote none.
-fn written<W: Write>(
-    out: &mut W,
-    answer: Answer,
-    t: &[u8; test_runs::MOST_TEXT],
-) -> io::Result<()> {
+fn written<W: Write>(out: &mut W, answer: Answer, text: &[u8]) -> io::Result<()> {
     let length = answer.length;
-    if length == 0 {
-        number(out, b"text ", answer.writer)?;
-        return fault(out, answer.writer);
+    match length {
+        0 => write!(out, "text {}", Fault(answer.writer)),
+        1..=SHOWN => out.write_all(test_rows::part(text, 0, length)),
+        _ => write!(out, "{length} bytes of text, Adler-32 {}", answer.checksum),
     }
-    if length <= SHOWN {
-        return text(out, test_rows::part(t, 0, length));
-    }
-    number(out, b"", length)?;
-    number(out, b" bytes of text, Adler-32 ", answer.checksum)
 }
 
-// What a search used.
-fn numbers<W: Write>(out: &mut W, call: [usize; 7]) -> io::Result<()> {
-    number(out, b", steps ", call[3])?;
-    number(out, b", names ", call[4])?;
-    number(out, b", formulas ", call[5])?;
-    number(out, b", terms ", call[6])
-}
-
-// Only a proof has nodes.
-fn found<W: Write>(out: &mut W, answer: Answer, t: &[u8; test_runs::MOST_TEXT]) -> io::Result<()> {
+// What a search used; only a proof has nodes, and a text.
+fn found<W: Write>(out: &mut W, answer: Answer, text: &[u8]) -> io::Result<()> {
     let call = answer.call;
-    if call[6] == 0 {
-        text(out, b"unprovable")?;
-        return numbers(out, call);
+    if call.terms == 0 {
+        write!(out, "unprovable")?;
+        return used(out, call);
     }
-    number(out, b"proved, root ", call[2])?;
-    numbers(out, call)?;
-    text(out, b", ")?;
-    written(out, answer, t)
+    write!(out, "proved, root {}", call.root)?;
+    used(out, call)?;
+    write!(out, ", ")?;
+    written(out, answer, text)
 }
 
-// What the lent slices hold: nothing above the fills after an answer, all that they held after a refusal.
-fn kept<W: Write>(out: &mut W, holds: bool, n: usize) -> io::Result<()> {
-    if !holds {
-        return text(out, b"; SLICES WRONG\n");
-    }
-    if n == 13 {
-        return text(out, b"; unchanged\n");
-    }
-    if n == 0 {
-        return text(out, b"; rest zero\n");
-    }
-    if n < 6 {
-        return text(out, b"; unchanged\n");
-    }
-    text(out, b"; rest zero\n")
+fn used<W: Write>(out: &mut W, call: Call) -> io::Result<()> {
+    write!(
+        out,
+        ", steps {}, names {}, formulas {}, terms {}",
+        call.steps, call.indices, call.formulas, call.terms
+    )
 }
 
-// The answer of the search.
-pub fn claim<W: Write>(
-    out: &mut W,
-    answer: Answer,
-    t: &[u8; test_runs::MOST_TEXT],
-) -> io::Result<()> {
-    let call = answer.call;
-    let n = call[0];
-    if n == 0 {
-        found(out, answer, t)?;
-        return kept(out, answer.kept, n);
+// The name of a verdict, which stands in the root's place.
+fn verdict(root: usize) -> &'static str {
+    match root {
+        1 => "Solvable",
+        2 => "Unsolvable",
+        _ => "Unknown",
     }
-    refused(out, call)?;
-    kept(out, answer.kept, n)
-}
-
-// The answer of the writer.
-pub fn draft<W: Write>(
-    out: &mut W,
-    answer: Answer,
-    t: &[u8; test_runs::MOST_TEXT],
-) -> io::Result<()> {
-    let call = answer.call;
-    let n = call[0];
-    if n == 0 {
-        written(out, answer, t)?;
-        return kept(out, answer.kept, n);
-    }
-    refused(out, call)?;
-    kept(out, answer.kept, n)
-}
-
-// The name of a verdict.
-fn verdict<W: Write>(out: &mut W, n: usize) -> io::Result<()> {
-    match n {
-        1 => text(out, b"Solvable"),
-        2 => text(out, b"Unsolvable"),
-        _ => text(out, b"Unknown"),
-    }
-}
-
-// The answer of the status.
-pub fn status<W: Write>(out: &mut W, answer: Answer) -> io::Result<()> {
-    let call = answer.call;
-    let n = call[0];
-    if n == 0 {
-        verdict(out, call[2])?;
-        return kept(out, answer.kept, n);
-    }
-    refused(out, call)?;
-    kept(out, answer.kept, n)
 }
 
 // What the program prints for a file: a refusal's line, or how many bytes.
-pub fn file<W: Write>(out: &mut W, answer: Answer) -> io::Result<()> {
-    let call = answer.call;
-    if call[0] == 0 {
-        number(out, b"prints ", answer.length)?;
-        number(out, b" bytes, Adler-32 ", answer.checksum)?;
-        return kept(out, answer.kept, 0);
+fn printed<W: Write>(out: &mut W, answer: Answer) -> io::Result<()> {
+    match answer.call.number {
+        0 => write!(
+            out,
+            "prints {} bytes, Adler-32 {}",
+            answer.length, answer.checksum
+        ),
+        number => write!(out, "prints refused {number}"),
     }
-    number(out, b"prints refused ", call[0])?;
-    kept(out, answer.kept, 6)
+}
+
+// What the lent slices hold: nothing above the fills after an answer, all that they held after a refusal. A file's slices are its own.
+fn left(kind: Kind, answer: Answer) -> &'static str {
+    match answer.call.number {
+        _ if !answer.kept => "SLICES WRONG",
+        1..=5 | 13 if kind != Kind::File => "unchanged",
+        _ => "rest zero",
+    }
+}
+
+// The answer of a row, and what its slices hold.
+pub fn answer<W: Write>(out: &mut W, kind: Kind, answer: Answer, text: &[u8]) -> io::Result<()> {
+    match kind {
+        Kind::File => printed(out, answer)?,
+        _ if answer.call.number != 0 => missed(out, answer.call)?,
+        Kind::Claim => found(out, answer, text)?,
+        Kind::Term => written(out, answer, text)?,
+        Kind::Status => write!(out, "{}", verdict(answer.call.root))?,
+    }
+    writeln!(out, "; {}", left(kind, answer))
 }

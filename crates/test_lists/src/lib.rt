@@ -1,108 +1,76 @@
 #![tactic(auto)]
-// The lists that `test_cases` and `test_replay` run: how a list is read and told, and the walk from row to row.
+// The lists that `test_cases` and `test_replay` run: how a list was made, and its rows, one after another.
 //
 // A list is how it was made (a length and so many bytes), how many rows it has, and the rows. What a program adds to a row stands behind
 // the row's own numbers and before its book.
 ghost use Rattle.std.specs.Prelude.{◌≡◌, length};
-ghost use Rattle.std.specs.Io.{ReadsAtMost};
+ghost use Rattle.std.specs.Iterator.{at_most};
 
-use std::io::{Read, Write};
-use std::rt::Files;
-use std::{fs, io};
+use test_runs::{Book, Row};
 
-// The longest list.
-pub const MOST_BYTES: usize = 524288;
-
-// Room for a list, all zeros. The contract tells its length alone, so that no proof above unfolds so many numbers.
-pub fn room() -> [u8; MOST_BYTES]
-    ensures { length result ≡ MOST_BYTES }
-{
-    [0; MOST_BYTES]
-}
-
-// Prints a text.
-pub fn text<W: Write>(out: &mut W, t: &[u8]) -> io::Result<()> {
-    out.write_all(t)
-}
-
-// Prints a number behind its name.
-pub fn number<W: Write>(out: &mut W, name: &[u8], n: usize) -> io::Result<()> {
-    text(out, name)?;
-    write!(out, "{n}")
-}
-
-// Reads until the list is full or the file ends.
-fn read_full<R: Read>(file: &mut R, list: &mut [u8]) -> io::Result<usize>
-    ensures { ReadsAtMost result list.new }
-{
-    let mut done = 0;
-    while done < list.len() {
-        let n = file.read(&mut list[done..])?;
-        if n == 0 {
-            break;
-        }
-        done += n;
-    }
-    Ok(done)
-}
-
-// Reads the file `list` and returns how many bytes it has.
-pub fn read(rt: &impl Files, list: &mut [u8]) -> io::Result<usize>
-    ensures { ReadsAtMost result list.new }
-{
-    let mut file = fs::open(rt, "list")?;
-    read_full(&mut file, list)
-}
-
-// Prints how the list was made.
-pub fn tell<W: Write>(out: &mut W, list: &[u8]) -> io::Result<()> {
-    let made = test_rows::past(list, 0);
-    text(out, test_rows::part(list, made, test_rows::value(list, 0)))?;
-    text(out, b"\n")
+// How the list was made.
+pub fn made(list: &[u8]) -> &[u8] {
+    test_rows::part(list, test_rows::past(list, 0), test_rows::value(list, 0))
 }
 
 // Where the number of rows stands, behind how the list was made.
 fn counted(list: &[u8]) -> usize {
-    let made = test_rows::past(list, 0);
-    test_rows::after(list, made, test_rows::value(list, 0))
+    test_rows::after(list, test_rows::past(list, 0), test_rows::value(list, 0))
 }
 
-// How many rows the list has.
-pub fn count(list: &[u8]) -> usize {
-    test_rows::value(list, counted(list))
+// The rows of a list from a place on. `behind` says where what its program adds to a row ends.
+#[derive(Drop)]
+pub struct Rows<'a, F> {
+    list: &'a [u8],
+    left: usize,
+    next: usize,
+    book: Book<'a>,
+    behind: F,
 }
 
-// Where a row begins, the book that it runs, and where the next row begins.
-#[derive(Clone, Copy)]
-pub struct Row {
-    pub at: usize,
-    pub book: usize,
-    pub next: usize,
-}
-
-// What stands before the first row: the walk begins there.
-pub fn start(list: &[u8]) -> Row {
-    Row {
-        at: 0,
-        book: 0,
-        next: test_rows::past(list, counted(list)),
+impl<'a, F: Fn(&[u8], usize) -> usize> Rows<'a, F> {
+    // All rows of a list.
+    pub fn of(list: &'a [u8], behind: F) -> Rows<'a, F>
+        ensures { result.behind ≡ behind }
+    {
+        let counted = counted(list);
+        Rows {
+            list,
+            left: test_rows::value(list, counted),
+            next: test_rows::past(list, counted),
+            book: Book { list, at: 0 },
+            behind,
+        }
     }
 }
 
-// The row behind another. Its book begins at `behind`, or it runs that of the row before and ends there.
-pub fn step(list: &[u8], before: Row, behind: usize) -> Row
-    ensures { result.at ≡ before.next }
-{
-    if test_runs::again(list, before.next) {
-        return Row {
-            at: before.next,
-            book: before.book,
-            next: behind,
-        };
-    }
-    Row {
-        at: before.next,
-        book: behind,
-        next: test_runs::book_end(list, behind),
+impl<'a, F: Fn(&[u8], usize) -> usize> Iterator for Rows<'a, F> {
+    type Item = Row<'a>;
+
+    ghost can_next = { λ s. F.IsAlwaysCallable s.behind };
+
+    ghost remaining = { λ s. at_most s.left };
+
+    // A row's book begins behind what is added to the row, or the row runs the book of the one before, and the next row begins there.
+    fn next(&mut self) -> Option<Row<'a>> {
+        if self.left == 0 {
+            return None;
+        }
+        let list = self.list;
+        let at = self.next;
+        let behind = (self.behind)(list, at);
+        if test_runs::again(list, at) {
+            self.next = behind;
+        } else {
+            let book = Book { list, at: behind };
+            self.next = book.end();
+            self.book = book;
+        }
+        self.left -= 1;
+        Some(Row {
+            list,
+            at,
+            book: self.book,
+        })
     }
 }
