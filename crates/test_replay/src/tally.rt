@@ -1,96 +1,64 @@
-// Counts of what came back: the proofs, the table's numbers, the claims without a proof, the files that are not refused, the statuses with
-// a verdict, and the rows that are as expected or not.
+// Counts of what came back.
 use std::io;
 use std::io::Write;
-use test_lists::{number, text};
+use test_runs::{Answer, Kind};
 
-const PROVED: usize = 0;
-
-const BAD_FILE: usize = 14;
-
-const UNPROVABLE: usize = 15;
-
-const PRINTED: usize = 16;
-
-const SETTLED: usize = 17;
-
-const EQUAL: usize = 18;
-
-pub const DIFFERENT: usize = 19;
-
-pub const KINDS: usize = 20;
-
-// How often a kind was counted.
-pub fn of(tally: &[usize], k: usize) -> usize {
-    if k < tally.len() {
-        return tally[k];
-    }
-    0
+// The proofs, the claims without a proof, the files that are not refused, the statuses with a verdict, how often each number of document
+// 01's table came back, the first at 0, and the rows that are as expected or not.
+#[derive(Clone, Copy)]
+pub struct Tally {
+    proved: usize,
+    unprovable: usize,
+    printed: usize,
+    settled: usize,
+    faults: [usize; 14],
+    pub equal: usize,
+    pub different: usize,
 }
 
-// Counts one more of a kind.
-pub fn count(tally: &mut [usize], k: usize) {
-    if k < tally.len() {
-        if tally[k] < 1000000 {
-            tally[k] += 1;
+pub const EMPTY: Tally = Tally {
+    proved: 0,
+    unprovable: 0,
+    printed: 0,
+    settled: 0,
+    faults: [0; 14],
+    equal: 0,
+    different: 0,
+};
+
+fn one_more(count: &mut usize) {
+    *count = count.saturating_add(1);
+}
+
+impl Tally {
+    fn count_fault(&mut self, number: usize) {
+        if let Some(count) = self.faults.get_mut(number.wrapping_sub(1)) {
+            one_more(count);
         }
     }
-}
 
-// The call's number, or else the writer's, by what the row asks for; only a proof has nodes.
-pub fn kind(asked: usize, number: usize, writer: usize, terms: usize) -> usize {
-    if number != 0 {
-        return number;
+    // Counts the call's number, or else the writer's, or what else came of what the row asks for; only a proof has nodes.
+    pub fn count(&mut self, asked: Kind, answer: Answer) {
+        match (answer.call.number, asked) {
+            (0, Kind::File) => one_more(&mut self.printed),
+            (0, Kind::Status) => one_more(&mut self.settled),
+            (0, _) if answer.writer != 0 => self.count_fault(answer.writer),
+            (0, _) if answer.call.terms == 0 => one_more(&mut self.unprovable),
+            (0, _) => one_more(&mut self.proved),
+            (number, _) => self.count_fault(number),
+        }
     }
-    if asked == test_runs::FILE {
-        return PRINTED;
-    }
-    if asked == test_runs::STATUS {
-        return SETTLED;
-    }
-    if writer != 0 {
-        return writer;
-    }
-    if terms == 0 {
-        return UNPROVABLE;
-    }
-    PROVED
-}
 
-// Counts a row that is as expected, or one that is not.
-pub fn judge(tally: &mut [usize], equal: bool) {
-    if equal {
-        return count(tally, EQUAL);
+    // Prints all counts.
+    pub fn show<W: Write>(&self, out: &mut W) -> io::Result<()> {
+        writeln!(
+            out,
+            "proved {}, unprovable {}, files answered {}, statuses settled {}",
+            self.proved, self.unprovable, self.printed, self.settled
+        )?;
+        for (i, count) in self.faults.iter().enumerate() {
+            writeln!(out, "{}: {count}", i.saturating_add(1))?;
+        }
+        writeln!(out, "{} equal, {} different", self.equal, self.different)
     }
-    count(tally, DIFFERENT)
-}
-
-// Prints how often one number of the table came back.
-fn line<W: Write>(out: &mut W, tally: &[usize], n: usize) -> io::Result<()> {
-    number(out, b"", n)?;
-    number(out, b": ", of(tally, n))?;
-    text(out, b"\n")
-}
-
-// How often each number of the table came back.
-fn refusals<W: Write>(out: &mut W, tally: &[usize]) -> io::Result<()> {
-    let mut n = 1;
-    while n <= BAD_FILE {
-        line(out, tally, n)?;
-        n += 1;
-    }
-    Ok(())
-}
-
-// Prints all counts.
-pub fn show<W: Write>(out: &mut W, tally: &[usize]) -> io::Result<()> {
-    number(out, b"proved ", of(tally, PROVED))?;
-    number(out, b", unprovable ", of(tally, UNPROVABLE))?;
-    number(out, b", files answered ", of(tally, PRINTED))?;
-    number(out, b", statuses settled ", of(tally, SETTLED))?;
-    text(out, b"\n")?;
-    refusals(out, tally)?;
-    number(out, b"", of(tally, EQUAL))?;
-    number(out, b" equal, ", of(tally, DIFFERENT))?;
-    text(out, b" different\n")
 }
