@@ -1,34 +1,29 @@
-// Lines of output: words of text and numbers, each after a space.
-use refusal::{Levels, Place};
-use std::io;
-use std::io::Write;
+// How an answer is shown.
+use std::fmt;
 
-pub fn text<W: Write>(out: &mut W, t: &[u8]) -> io::Result<()> {
-    out.write_all(t)
+pub fn flag(b: bool) -> &'static str {
+    if b { "yes" } else { "no" }
 }
 
-pub fn number<W: Write>(out: &mut W, n: usize) -> io::Result<()> {
-    write!(out, " {n}")
+// A letter of a long line: g for good, b for bad.
+pub fn letter(good: bool) -> char {
+    if good { 'g' } else { 'b' }
 }
 
-pub fn flag<W: Write>(out: &mut W, b: bool) -> io::Result<()> {
-    text(out, if b { b" yes" } else { b" no" })
-}
+// A place or a level, or the word for none.
+#[derive(Drop)]
+pub struct Or(pub Option<usize>, pub &'static str);
 
-pub fn place<W: Write>(out: &mut W, p: Place) -> io::Result<()> {
-    match p {
-        Place::At(i) => number(out, i),
-        Place::Nowhere => text(out, b" nowhere"),
+impl fmt::Display for Or {
+    fn fmt<W: fmt::Write>(&self, f: &mut fmt::Formatter<W>) -> fmt::Result {
+        match self.0 {
+            Some(n) => write!(f, "{n}"),
+            None => write!(f, "{}", self.1),
+        }
     }
 }
 
-pub fn levels<W: Write>(out: &mut W, l: Levels) -> io::Result<()> {
-    match l {
-        Levels::UpTo(n) => number(out, n),
-        Levels::WrongRecords => text(out, b" none"),
-    }
-}
-
-pub fn end<W: Write>(out: &mut W) -> io::Result<()> {
-    text(out, b"\n")
+// A place, or that nothing is refused.
+pub fn place(refused: Option<usize>) -> Or {
+    Or(refused, "nowhere")
 }

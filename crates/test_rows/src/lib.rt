@@ -4,12 +4,10 @@
 mod compare;
 mod numbers;
 
-ghost use Rattle.std.specs.Prelude.{◌≡◌, ◌≤◌, ◌<◌, length, get_or, replicate};
-ghost use Rattle.context.specs.Area.{record_of};
+ghost use Rattle.std.specs.Prelude.{◌≡◌, ◌≤◌, ◌<◌, length, get_or};
 ghost use Rattle.test_rows.specs.Bytes.{onward, half_at, word_at};
 
 pub use compare::{all_are, records_are, words_stand};
-use context::Record;
 pub use numbers::{Number, read};
 
 // The byte at a position.
@@ -91,15 +89,4 @@ pub fn part<'a>(list: &'a [u8], at: usize, n: usize) -> &'a [u8]
         Some(rest) if n <= rest.len() => &rest[..n],
         _ => &list[..0],
     }
-}
-
-// A work area of records that hold x twice, one record longer than document 01 lets anyone lend.
-pub fn filled(x: u16) -> [Record; 16385]
-    ensures { result ≡ replicate 16385 (record_of x x) }
-{
-    let junk = Record {
-        formula: x,
-        term: x,
-    };
-    [junk; 16385]
 }
