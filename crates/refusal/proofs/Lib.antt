@@ -1,4 +1,3 @@
-pub mod Table
 pub mod Walks
 pub mod Room
 pub mod NameWalk

@@ -1,6 +1,6 @@
 #![tactic(auto)]
 // The rows of document 01's table that an input can meet before a search or a writing: 1 to 5 and 13, each with its place.
-ghost use Rattle.std.specs.Prelude.{◌≡◌, ◌*◌, ◌≤◌, length, get_or, take};
+ghost use Rattle.std.specs.Prelude.{◌≡◌, ◌*◌, ◌≤◌, length, take};
 ghost use Rattle.theory.specs.Form.{bad_word};
 ghost use Rattle.theory.specs.NameText.{names_in, bad_name};
 ghost use Rattle.theory.specs.Layout.{node_width, bad_term};
@@ -132,13 +132,6 @@ pub fn bad_word(words: &[u32], count: usize) -> Option<usize>
         }
     }
     None
-}
-
-// The formula of assumption i; 0 out of range.
-pub fn assumption(assumed: &[u16], i: usize) -> usize
-    ensures { result ≡ get_or assumed.now i 0 }
-{
-    usize::from(assumed.get(i).copied().unwrap_or(0))
 }
 
 // 3, the count alone.
