@@ -67,7 +67,8 @@ module _ {m : Limits} (taken : List (List ℕ)) {x : Lent} {s : State} {q : Sequ
   -- (A∧B)→C
   module _ (l : LastFrom x q 3 a t) where
     pub curry_short : {e : Missed} →
-        Tested m (Err e) s (h + 1) (s.formulas + 2) (s.terms + 7) (q.unordered + q.ordered) q.level → Turns m taken x s q M.by_left (Err e) x
+        Tested m (Err e) s (h + 1) (s.formulas + 2) (s.terms + 7) (q.unordered + q.ordered) q.level →
+        Turns m taken x s q M.by_left (Err e) x
     curry_short e =
         turns_missed (left_curry_short taken rep l.last.some (kind_last taken rep l.last) eg eh (kind_from taken rep l) e)
 

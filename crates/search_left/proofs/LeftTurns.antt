@@ -70,7 +70,8 @@ module _ {m : Limits} (taken : List (List ℕ)) {x : Lent} {s : State} {q : Sequ
 
   -- False ends, or there is no room for its node
   module _ (l : Last x q 1 a t) where
-    false_goes : {r : Answer} {t1 : List ℕ} → Closes m x.numbers s (abort t) r t1 → Goes M.by_left m taken x s q r (lent x.words t1 x.records)
+    false_goes : {r : Answer} {t1 : List ℕ} → Closes m x.numbers s (abort t) r t1 →
+        Goes M.by_left m taken x s q r (lent x.words t1 x.records)
     false_goes {r} {t1} c = left_false_lem taken rep l.some (kind_last l) (subst (λ (i : ℕ). Closes m x.numbers s (abort i) r t1) l.term c)
 
     pub abort_on : {r : Answer} {f : Found} {t1 : List ℕ} → Closes m x.numbers s (abort t) r t1 → r ≡ Ok f →

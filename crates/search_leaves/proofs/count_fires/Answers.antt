@@ -18,6 +18,7 @@ returns c =
     let q = c.args.sequent in
     let test : ℕ → Bool = λ i. ltb (fires_by a.words.now a.work.now q.level q.unordered i) q.unordered in
     count_from_yields_List _ c.count.result c.count.ensures.ran
-    (YieldsList-from_filter _ test (YieldsList-from_range 0 q.unordered q.unordered c.filter.ensures.source (omega arith)) c.filter.ensures.closure
+    (YieldsList-from_filter _ test (YieldsList-from_range 0 q.unordered q.unordered c.filter.ensures.source (omega arith))
+    c.filter.ensures.closure
     (λ x b r k. search (rules, tests, is_below)))
     ∙ length-filter test _ ∙ counted a.words.now a.work.now q.level q.unordered q.unordered

@@ -50,10 +50,6 @@ curried-requires c =
     (tested_ok c.charge.ensures c.in_ok-charge.was) in
     (omega arith, o.2, o.3)
 
-pub pop-rest-requires : goal.pop-rest-requires
-pop-rest-requires c =
-    c.requires.last.last.some
-
 pub push-q1-requires : goal.push-q1-requires
 push-q1-requires c =
     push_room c.requires.represented c.requires.last.last.some c.pop-rest.ensures

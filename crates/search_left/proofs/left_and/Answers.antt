@@ -17,7 +17,8 @@ push-q1-requires c =
 
 pub push-q2-requires : goal.push-q2-requires
 push-q2-requires c =
-    push_room_more c.requires.represented (tested_ok c.charge.ensures c.in_ok-charge.was) refl c.requires.last.some c.pop-rest.ensures c.push-q1.ensures.result
+    push_room_more c.requires.represented (tested_ok c.charge.ensures c.in_ok-charge.was) refl c.requires.last.some
+    c.pop-rest.ensures c.push-q1.ensures.result
 
 pub spend-requires : goal.spend-requires
 spend-requires c =

@@ -12,14 +12,6 @@ true_impl-requires c =
       last = last_from c.requires.last c.left_at.ensures c.kind_at.ensures c.in-True.is;
     }
 
-pub returns-in-True : goal.returns-in-True
-returns-in-True c =
-    c.true_impl.ensures (skipped (names_in c.args.names.now))
-
-pub pop-requires : goal.pop-requires
-pop-requires c =
-    c.requires.last.some
-
 pub returns-in-False : goal.returns-in-False
 returns-in-False c =
     drop_impl_on (skipped (names_in c.args.names.now)) c.requires.represented
@@ -33,10 +25,6 @@ and_impl-requires c =
       few = c.requires.few;
     }
 
-pub returns-in-And : goal.returns-in-And
-returns-in-And c =
-    c.and_impl.ensures
-
 pub or_impl-requires : goal.or_impl-requires
 or_impl-requires c =
     record {
@@ -44,14 +32,6 @@ or_impl-requires c =
       last = last_from c.requires.last c.left_at.ensures c.kind_at.ensures c.in-Or.is;
       few = c.requires.few;
     }
-
-pub returns-in-Or : goal.returns-in-Or
-returns-in-Or c =
-    c.or_impl.ensures
-
-pub pop-requires-in_default : goal.pop-requires-in_default
-pop-requires-in_default c =
-    c.requires.last.some
 
 pub append-requires : goal.append-requires
 append-requires c =

@@ -1,5 +1,4 @@
 -- `left_rule` meets its contract: each kind of the last formula by its law. Assumes nothing.
-use native.Mathlib.Omega.{arith}
 use Rattle.theory.specs.NameText.{names_in}
 use Rattle.theory.specs.Names.{skipped}
 use Rattle.meter.proofs.Laws.{carried}
@@ -7,24 +6,10 @@ use Rattle.search_left.proofs.Charged.{push_room}
 use Rattle.search_left.proofs.LeftTurns.{last_of, last_is, drop_on, abort_on, abort_missed, split_on, settle_on}
 use Rattle.search_left.proofs.left_rule.Goals as goal
 
-pub top-at-requires : goal.top-at-requires
-top-at-requires c =
-    let r = c.requires.represented in
-    (omega (arith, r.seats.level_in, r.rooms.most_levels), omega (arith, r.seats.fits))
-
-pub pop-requires : goal.pop-requires
-pop-requires c =
-    c.requires.some
-
 pub returns-in-True : goal.returns-in-True
 returns-in-True c =
     let last = last_of c.requires.some c.top-at.ensures c.formula_at-a.ensures c.term_at-x.ensures in
     drop_on (skipped (names_in c.args.names.now)) c.requires.represented (last_is last c.kind_at.ensures c.in-True.is) c.pop.ensures
-
-pub close-requires : goal.close-requires
-close-requires c =
-    let r = c.requires.represented in
-    (r.rooms.most_terms, omega (arith, r.within.in_formulas, r.rooms.most_formulas))
 
 pub returns-in_err-close-in-False : goal.returns-in_err-close-in-False
 returns-in_err-close-in-False c =
@@ -44,10 +29,6 @@ left_and-requires c =
     let last = last_of c.requires.some c.top-at.ensures c.formula_at-a.ensures c.term_at-x.ensures in
     record { represented = c.requires.represented; last = last_is last c.kind_at.ensures c.in-And.is }
 
-pub returns-in-And : goal.returns-in-And
-returns-in-And c =
-    c.left_and.ensures (skipped (names_in c.args.names.now))
-
 pub returns-in-Or : goal.returns-in-Or
 returns-in-Or c =
     let last = last_of c.requires.some c.top-at.ensures c.formula_at-a.ensures c.term_at-x.ensures in
@@ -61,14 +42,6 @@ left_impl-requires c =
       last = last_is last c.kind_at.ensures c.in-Impl.is;
       few = c.requires.few;
     }
-
-pub returns-in-Impl : goal.returns-in-Impl
-returns-in-Impl c =
-    c.left_impl.ensures
-
-pub pop-requires-in_default : goal.pop-requires-in_default
-pop-requires-in_default c =
-    c.requires.some
 
 pub append-requires : goal.append-requires
 append-requires c =

@@ -55,10 +55,6 @@ composed-requires-2 c =
     (tested_ok c.charge.ensures c.in_ok-charge.was) in
     (omega arith, o.3)
 
-pub pop-rest-requires : goal.pop-rest-requires
-pop-rest-requires c =
-    c.requires.last.last.some
-
 pub push-q1-requires : goal.push-q1-requires
 push-q1-requires c =
     push_room c.requires.represented c.requires.last.last.some c.pop-rest.ensures
@@ -67,7 +63,8 @@ pub push-q2-requires : goal.push-q2-requires
 push-q2-requires c =
     let st = c.args.state in
     let q = c.args.sequent in
-    push_room_more c.requires.represented (tested_ok c.charge.ensures c.in_ok-charge.was) refl c.requires.last.last.some c.pop-rest.ensures c.push-q1.ensures.result
+    push_room_more c.requires.represented (tested_ok c.charge.ensures c.in_ok-charge.was) refl c.requires.last.last.some
+    c.pop-rest.ensures c.push-q1.ensures.result
 
 pub spend-requires : goal.spend-requires
 spend-requires c =

@@ -9,10 +9,6 @@ pub returns-then-limits-state : goal.returns-then-limits-state
 returns-then-limits-state c =
     turned_stop (skipped (names_in c.args.names.now)) c.requires.represented c.if-limits-state.true
 
-pub counted-s-requires : goal.counted-s-requires
-counted-s-requires c =
-    omega (arith, c.if-limits-state.false, c.requires.represented.rooms.most_steps)
-
 pub left_rule-requires : goal.left_rule-requires
 left_rule-requires c =
     record {
@@ -31,10 +27,6 @@ returns-then-limits-s c =
     turned_stop_search (skipped (names_in c.args.names.now)) c.requires.represented c.if-limits-state.false
     c.counted-s.ensures
     (omega (arith, c.if-sequent-gt0.false)) c.if-limits-s.true
-
-pub counted-requires : goal.counted-requires
-counted-requires c =
-    omega (arith, c.if-limits-s.false, c.requires.represented.rooms.most_steps)
 
 pub settle-requires : goal.settle-requires
 settle-requires c =
