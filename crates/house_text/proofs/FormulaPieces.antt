@@ -222,4 +222,6 @@ module _ {words : List ℕ} {i k l : ℕ} (w : WordRead words i k l) where
         let w = above (before_it (opening k) (beside (half l) (before_it (bytes " ") (behind_it (half right) (bytes ")"))))) in
         ap₂ (λ (x : List ℕ) (n : ℕ). joined (some x) (joined (form_piece words (levels - 1) l)
         (joined (some (bytes " ")) (joined (form_piece words (levels - 1) n) (some (bytes ")")))))) h.2 e
-        ∙ by_shape (record { is = w.is ∙ ap₂ (up_to (suc (levels - 1))) (sym (both.depth (depth_at words))) (sym (both.text (text_at words))) })
+        ∙ by_shape (record {
+          is = w.is ∙ ap₂ (up_to (suc (levels - 1))) (sym (both.depth (depth_at words))) (sym (both.text (text_at words)));
+        })

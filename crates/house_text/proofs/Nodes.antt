@@ -21,7 +21,8 @@ use Rattle.proof_term.proofs.KindLaws.{no_word, some_word, word_inside}
 use Rattle.house_text.specs.Laid.{joined}
 use Rattle.house_text.specs.Pieces.{up_to, book, nodes, Given, FieldIn, term_piece, field_piece}
 use Rattle.house_text.proofs.Levels.{Whole}
-use Rattle.house_text.proofs.NodePieces.{formula_text, formula_depth, child_text, child_depth, fields_piece, shown, shown_fields, shown_piece}
+use Rattle.house_text.proofs.NodePieces.{formula_text, formula_depth, child_text, child_depth}
+use Rattle.house_text.proofs.NodePieces.{fields_piece, shown, shown_fields, shown_piece}
 use Rattle.house_text.proofs.NodePieces.{front_piece, front_next, front_rest}
 
 -- fields that all refer to formulas below m and nodes below n

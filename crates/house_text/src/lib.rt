@@ -133,7 +133,8 @@ fn lay_field(
     levels: usize,
 ) -> Option<usize>
     requires given { Given draft.words.now draft.terms.now }
-    requires field { FieldIn (length draft.words.now) (length draft.terms.now / node_width) (field_as what) (get_or draft.terms.now place 0) }
+    requires field { FieldIn (length draft.words.now) (length draft.terms.now / node_width) (field_as what)
+        (get_or draft.terms.now place 0) }
     ensures { Laid (field_piece draft.entry.words.now draft.entry.terms.now (names_in draft.entry.names.now) levels (field_as what)
         (get_or draft.entry.terms.now place 0)) buf.old at buf.new result }
 {

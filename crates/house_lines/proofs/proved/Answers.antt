@@ -1,19 +1,20 @@
 -- `proved` lays its lines and clears the rest. Assumes nothing.
+use mathlib.Core.Path.{◌∙◌}
 use Rattle.theory.specs.File.{proved_with}
 use Rattle.house_lines.proofs.Filling.{end_inside, end_is_size, filled}
 use Rattle.house_lines.proofs.proved.Goals as goal
 
-pub clear_from-requires : goal.clear_from-requires
-clear_from-requires c =
+pub close-requires : goal.close-requires
+close-requires c =
     let args = c.args in
-    end_inside (proved_with args.steps args.names args.formulas args.terms args.text.now)
-    c.lay_proved-end.ensures c.requires.room
+    end_inside (proved_with args.steps args.names args.formulas args.terms args.text.now) c.lay_proved-end.ensures c.requires.room
 
 pub returns : goal.returns
 returns c =
     let args = c.args in
     let lines = proved_with args.steps args.names args.formulas args.terms args.text.now in
-    let laid = c.lay_proved-end.ensures in record {
-      out = filled lines laid c.requires.room c.clear_from.ensures;
-      length = end_is_size lines laid c.requires.room;
+    let laid = c.lay_proved-end.ensures in
+    record {
+      out = filled lines laid c.requires.room c.close.ensures.out;
+      length = c.close.ensures.length ∙ end_is_size lines laid c.requires.room;
     }

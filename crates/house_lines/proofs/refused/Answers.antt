@@ -1,19 +1,23 @@
--- `refused` lays its line and clears the rest. Assumes nothing.
+-- `refused` lays its lines and clears the rest. Assumes nothing.
+use mathlib.Core.Path.{◌∙◌}
 use Rattle.theory.specs.Text.{bytes}
 use Rattle.theory.specs.File.{refused_line}
 use Rattle.house_lines.proofs.Filling.{end_inside, end_is_size, filled}
 use Rattle.house_lines.proofs.refused.Goals as goal
 
-pub clear_from-requires : goal.clear_from-requires
+pub close-requires : goal.close-requires
 unfolding refused_line bytes
-clear_from-requires c =
-    end_inside (refused_line c.args.number) c.lay_counted-end.ensures c.requires.room
+close-requires c =
+    let args = c.args in
+    end_inside (refused_line args.number) c.lay_counted-end.ensures c.requires.room
 
 pub returns : goal.returns
 unfolding refused_line bytes
 returns c =
-    let lines = refused_line c.args.number in
-    let laid = c.lay_counted-end.ensures in record {
-      out = filled lines laid c.requires.room c.clear_from.ensures;
-      length = end_is_size lines laid c.requires.room;
+    let args = c.args in
+    let lines = refused_line args.number in
+    let laid = c.lay_counted-end.ensures in
+    record {
+      out = filled lines laid c.requires.room c.close.ensures.out;
+      length = c.close.ensures.length ∙ end_is_size lines laid c.requires.room;
     }

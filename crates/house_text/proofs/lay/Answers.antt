@@ -25,4 +25,5 @@ returns c =
     let b = c.args.buf.now in
     let at = c.args.at in
     let x = c.args.text.now in
-    laid_text x b _ at (omega arith) (search (rules, overwrites)) (take-put_mid at _ b _ (at + length x) (omega arith) (omega arith) ∙ ap (λ t. take at b ++ t) (c.copy_from_slice.ensures.after))
+    laid_text x b _ at (omega arith) (search (rules, overwrites))
+    (take-put_mid at _ b _ (at + length x) (omega arith) (omega arith) ∙ ap (λ t. take at b ++ t) c.copy_from_slice.ensures.after)

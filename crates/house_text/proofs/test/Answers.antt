@@ -32,17 +32,20 @@ returns-then-not-formula_sizes c =
 pub returns-in-Some : goal.returns-in-Some
 unfolding fault_at or_else unless
 returns-in-Some c =
-    in_order_lem (draft_of c.args.draft []) (sizes (goal.at.returns-in-Some c).Else-not-node_sizes) c.in-Some.ensures refl refl refl
+    in_order_lem (draft_of c.args.draft []) (sizes (goal.at.returns-in-Some c).Else-not-node_sizes)
+    c.in-Some.ensures refl refl refl
 
 pub returns-in-Some-too_many : goal.returns-in-Some-too_many
 unfolding fault_at or_else unless
 returns-in-Some-too_many c =
-    in_order_lem (draft_of c.args.draft []) (sizes (goal.at.returns-in-Some-too_many c).Else-not-node_sizes) c.in_default.ensures c.in-Some-too_many.ensures refl refl
+    in_order_lem (draft_of c.args.draft []) (sizes (goal.at.returns-in-Some-too_many c).Else-not-node_sizes)
+    c.in_default.ensures c.in-Some-too_many.ensures refl refl
 
 pub returns-in-Some-bad_name : goal.returns-in-Some-bad_name
 unfolding fault_at or_else unless
 returns-in-Some-bad_name c =
-    in_order_lem (draft_of c.args.draft []) (sizes (goal.at.returns-in-Some-bad_name c).Else-not-node_sizes) c.in_default.ensures c.in_default-too_many.ensures c.in-Some-bad_name.ensures refl
+    in_order_lem (draft_of c.args.draft []) (sizes (goal.at.returns-in-Some-bad_name c).Else-not-node_sizes)
+    c.in_default.ensures c.in_default-too_many.ensures c.in-Some-bad_name.ensures refl
 
 pub bad_term-requires : goal.bad_term-requires
 bad_term-requires c =
@@ -52,9 +55,13 @@ bad_term-requires c =
 pub returns-in-Some-bad_term : goal.returns-in-Some-bad_term
 unfolding fault_at or_else unless
 returns-in-Some-bad_term c =
-    in_order_lem (draft_of c.args.draft []) (sizes (goal.at.returns-in-Some-bad_term c).Else-not-node_sizes) c.in_default.ensures c.in_default-too_many.ensures c.in_default-bad_name.ensures c.in-Some-bad_term.ensures
+    in_order_lem (draft_of c.args.draft []) (sizes (goal.at.returns-in-Some-bad_term c).Else-not-node_sizes)
+    c.in_default.ensures c.in_default-too_many.ensures c.in_default-bad_name.ensures
+    c.in-Some-bad_term.ensures
 
 pub returns : goal.returns
 unfolding fault_at or_else unless
 returns c =
-    in_order_lem (draft_of c.args.draft []) (sizes (goal.at.returns c).Else-not-node_sizes) c.in_default.ensures c.in_default-too_many.ensures c.in_default-bad_name.ensures c.in_default-bad_term.ensures
+    in_order_lem (draft_of c.args.draft []) (sizes (goal.at.returns c).Else-not-node_sizes)
+    c.in_default.ensures c.in_default-too_many.ensures c.in_default-bad_name.ensures
+    c.in_default-bad_term.ensures

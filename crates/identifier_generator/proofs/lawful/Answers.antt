@@ -24,10 +24,12 @@ pub returns-then-not-any : goal.returns-then-not-any
 returns-then-not-any c =
     let args = c.args in
     c.well_spelled.ensures
-    ∙ unrepeated (names_in args.earlier.now) args.name.now (sym (stands_among (goal.at.returns-then-not-any c).After-any) ∙ c.if-not-any.true)
+    ∙ unrepeated (names_in args.earlier.now) args.name.now
+    (sym (stands_among (goal.at.returns-then-not-any c).After-any) ∙ c.if-not-any.true)
 
 pub returns-else-not-any : goal.returns-else-not-any
 returns-else-not-any c =
     let args = c.args in
     ap not c.if-not-any.false
-    ∙ repeated (names_in args.earlier.now) args.name.now (sym (stands_among (goal.at.returns-else-not-any c).After-any) ∙ c.if-not-any.false)
+    ∙ repeated (names_in args.earlier.now) args.name.now
+    (sym (stands_among (goal.at.returns-else-not-any c).After-any) ∙ c.if-not-any.false)
