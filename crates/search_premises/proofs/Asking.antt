@@ -1,4 +1,5 @@
 -- What follows from a premise that was asked a level up, and from a step that was counted. Assumes nothing.
+use Rattle.std.specs.Prelude.{Ok, Err}
 use Prim.Native.Nat.{ℕ, ◌+◌, ◌<◌}
 use mathlib.Core.Path.{◌≡◌, sym, ap, ◌∙◌, subst}
 use mathlib.Core.List.{List, []}
@@ -11,9 +12,9 @@ use Rattle.theory.specs.Search.{goal_up}
 use Rattle.meter.specs.declared.State.{State}
 use Rattle.meter.specs.declared.Sequent.{Sequent}
 use Rattle.meter.specs.declared.Limits.{Limits}
-use Rattle.meter.specs.declared.Answer.{Answer}
-use Rattle.meter.specs.declared.Answer.TheVariants.{Found, Failed, Short}
-use Rattle.meter.specs.Moves.{stepped, returned}
+use Rattle.meter.specs.declared.Found.{Found}
+use Rattle.meter.specs.declared.Missed.TheVariants.{Failed}
+use Rattle.meter.specs.Moves.{Answer, stepped, returned}
 use Rattle.context.specs.Moves.{upped}
 use Rattle.context.specs.Area.{Rec, raised}
 use Rattle.search_laws.specs.Reading.{Lent, lent, book, kind_at, seq_of}
@@ -23,47 +24,26 @@ use Rattle.search_laws.specs.Making.{Tested, Made, Back}
 use Rattle.search_laws.proofs.Areas.{fields}
 use Rattle.search_laws.proofs.Right.{up_made}
 use Rattle.search_laws.proofs.Branch.{back_found, back_failed}
-use Rattle.search_premises.specs.declared.Ready.{Ready}
-use Rattle.search_premises.specs.declared.Ready.TheVariants.{Go, Lacks}
 use Rattle.search_premises.specs.Prepared.{Prepared}
-use Rattle.search_premises.specs.Asked.{Asked, lacks, asks, weigh_goal, Raised, raised_asks}
+use Rattle.search_premises.specs.Asked.{Branched, asks, weigh_goal, Raised, raised_asks}
 
 module _ {m : Limits} {x : Lent} {s : State} {q : Sequent} {u nf nt c : ℕ} {ws : Book} {ns : List Node} {Q : M.Sequent} where
-  pub prepared_at : {y : Lent} {r r1 : Ready} → r ≡ r1 → Prepared m x s q u nf nt c ws ns Q r y → Prepared m x s q u nf nt c ws ns Q r1 y
-  prepared_at {y} e p = subst (λ (v : Ready). Prepared m x s q u nf nt c ws ns Q v y) e p
-
   -- what is made for the premise
-  pub made_for : {y : Lent} {s1 : State} {q1 : Sequent} → Prepared m x s q u nf nt c ws ns Q (Go s1 q1) y → Made m x s q u ws ns Q y s1 q1
-  made_for (Prepared.ready t z mk up) = mk
+  pub made_for : {y : Lent} {s1 : State} {q1 : Sequent} → Prepared m x s q u nf nt c ws ns Q (Ok (s1, q1)) y →
+      Made m x s q u ws ns Q y s1 q1
+  made_for (Prepared.ready t mk up) = mk
 
-  -- the charge passes a limit
-  pub asked_lacks : (j : M.Judgement) (taken : List (List ℕ)) {y : Lent} {n : ℕ} → Prepared m x s q u nf nt c ws ns Q (Lacks n) y →
-      Asked j m taken x s q u nf nt c ws ns Q (Short n s) y
-  asked_lacks j taken (Prepared.lacks t z) = lacks t z
-
-  -- the premise is asked
-  pub asked_by : {j : M.Judgement} {taken : List (List ℕ)} {y z : Lent} {s1 : State} {q1 : Sequent} {a : Answer} →
-      Prepared m x s q u nf nt c ws ns Q (Go s1 q1) y → Meets j m taken y s1 q1 a z → Asked j m taken x s q u nf nt c ws ns Q a z
-  asked_by (Prepared.ready t z mk up) h = asks t z mk up h
-
-  pub asked_at : {j : M.Judgement} {taken : List (List ℕ)} {y : Lent} {r r1 : Answer} → r ≡ r1 →
-      Asked j m taken x s q u nf nt c ws ns Q r y → Asked j m taken x s q u nf nt c ws ns Q r1 y
-  asked_at {j} {taken} {y} e p = subst (λ (v : Answer). Asked j m taken x s q u nf nt c ws ns Q v y) e p
-
-  -- a premise that is found leaves the conclusion's sequent, and its node is below the fill
-  pub found_back : {j : M.Judgement} {taken : List (List ℕ)} {y : Lent} {i : ℕ} {s2 : State} → Rep m x s q →
-      Asked j m taken x s q u nf nt c ws ns Q (Found i s2) y → Back m x s q s2 y × (i < s2.terms)
-  found_back rep (asks t z mk up p) = (back_found mk rep up p.kept, p.kept.after.root_in)
+-- a half that is found leaves the conclusion's sequent, and its node is below the fill
+pub found_back : {m : Limits} {taken : List (List ℕ)} {x y : Lent} {s : State} {q : Sequent} {b a : ℕ} {f : Found} → Rep m x s q →
+    Branched m taken x s q b a (Ok f) y → Back m x s q f.state y × (f.node < f.state.terms)
+found_back rep (asks (Prepared.ready t mk up) p) = (back_found mk rep up p.kept, p.kept.after.root_in)
 
 module _ {m : Limits} {taken : List (List ℕ)} {x : Lent} {s : State} {q : Sequent} {g : ℕ} where
-  pub raised_at : {y : Lent} {r r1 : Answer} → r ≡ r1 → Raised m taken x s q g r y → Raised m taken x s q g r1 y
-  raised_at {y} e p = subst (λ (v : Answer). Raised m taken x s q g v y) e p
-
-  pub raised_found : {y : Lent} {i : ℕ} {s2 : State} → Rep m x s q → Raised m taken x s q g (Found i s2) y →
-      Back m x s q s2 y × (i < s2.terms)
+  pub raised_found : {y : Lent} {f : Found} → Rep m x s q → Raised m taken x s q g (Ok f) y →
+      Back m x s q f.state y × (f.node < f.state.terms)
   raised_found rep (raised_asks mk up p) = (back_found mk rep up p.kept, p.kept.after.root_in)
 
-  pub raised_failed : {y : Lent} {s2 : State} → Rep m x s q → Raised m taken x s q g (Failed s2) y → Back m x s q (returned s s2) y
+  pub raised_failed : {y : Lent} {s2 : State} → Rep m x s q → Raised m taken x s q g (Err (Failed s2)) y → Back m x s q (returned s s2) y
   raised_failed rep (raised_asks mk up p) = back_failed mk rep up p.kept
 
 -- words below the fill are read as before
@@ -91,11 +71,11 @@ module _ {m : Limits} {x : Lent} {st s : State} {q : Sequent} (rep : Rep m x st 
   weigh_step j = ap (λ (v : State). weigh j x.words v.formulas x.records q) e
 
 -- another goal, a level up
-module _ {m : Limits} {x : Lent} {s : State} {q q1 : Sequent} {w1 : List Rec} {n g : ℕ} (rep : Rep m x s q)
-    (t : Tested m n s.indices s.formulas s.terms (q.unordered + q.ordered) (q.level + 1)) (z : n ≡ 0) (h : g < s.formulas)
+module _ {m : Limits} {x : Lent} {s : State} {q q1 : Sequent} {w1 : List Rec} {g : ℕ} (rep : Rep m x s q)
+    (t : Tested m (Ok tt) s s.indices s.formulas s.terms (q.unordered + q.ordered) (q.level + 1)) (h : g < s.formulas)
     (ew : w1 ≡ raised x.records q) (eq : q1 ≡ upped q g) where
   raised_made : Made m x s q s.indices [] [] (goal_up (seq_of x.records q) g) (lent x.words x.numbers w1) s q1
-  raised_made = up_made rep t z h ew eq
+  raised_made = up_made rep t h ew eq
 
   pub raised_rep : Rep m (lent x.words x.numbers w1) s q1
   raised_rep = raised_made.rep

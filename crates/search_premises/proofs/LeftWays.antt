@@ -1,8 +1,10 @@
 -- The ways of left: one turn after another, and a disjunction by what its premises came to. Assumes nothing.
+use Rattle.std.specs.Prelude.{Ok, Err}
 use Prim.Native.Nat.{ℕ, ◌+◌, ◌*◌, ◌<◌}
 use mathlib.Core.Path.{◌≡◌, refl, sym, ap, ◌∙◌, subst}
-use mathlib.Core.List.{List}
+use mathlib.Core.List.{List, []}
 use native.Mathlib.Omega.{arith}
+use lib.ListN.{get_or}
 use Rattle.theory.specs.Form.{kind_of, right_of}
 use Rattle.theory.specs.Term.{case}
 use Rattle.theory.specs.Names.{fresh}
@@ -11,29 +13,27 @@ use Rattle.theory.specs.Search.{name}
 use Rattle.meter.specs.declared.State.{State}
 use Rattle.meter.specs.declared.Sequent.{Sequent}
 use Rattle.meter.specs.declared.Limits.{Limits}
-use Rattle.meter.specs.declared.Answer.{Answer}
-use Rattle.meter.specs.declared.Answer.TheVariants.{Found}
-use Rattle.meter.specs.declared.Next.{Next}
+use Rattle.meter.specs.declared.Found.{Found}
+use Rattle.meter.specs.declared.Missed.{Missed}
 use Rattle.meter.specs.declared.Next.TheVariants as N
+use Rattle.meter.specs.Moves.{Answer}
 use Rattle.context.specs.Moves.{stretch}
-use Rattle.context.specs.Area.{Rec, top_place}
+use Rattle.context.specs.Area.{Rec, formula_at, term_at, top_place}
 use Rattle.search_laws.specs.Reading.{Lent, lent, kind_at, left_at, right_at, seq_of}
 use Rattle.search_laws.specs.Keeping.{Rep}
 use Rattle.search_laws.specs.Meaning.{Meets, Goes, Gives, weigh, Onward, GoesOn}
 use Rattle.search_laws.specs.Making.{Back}
 use Rattle.search_laws.specs.Parts.{or_second}
 use Rattle.search_laws.specs.Closing.{Closes}
-use Rattle.search_laws.specs.Turning.{Splits, tries, Turned, turned_on, turned_end, turned_split, turned_try}
+use Rattle.search_laws.specs.Turning.{Splits, tries, Turned, turned_on, turned_end, turned_missed, turned_split, turned_try}
 use Rattle.search_laws.specs.Records.{top_formula, top_term, others}
 use Rattle.search_laws.proofs.Charge.{passes}
-use Rattle.search_laws.proofs.Combine.{Lost}
 use Rattle.search_laws.proofs.Branch.{back_found}
 use Rattle.search_laws.proofs.Left.{top_inside}
 use Rattle.search_laws.proofs.LeftOr as Or
 use Rattle.search_laws.proofs.LeftOr.{left_or_short, left_or_lost, left_or_then, or_second_short, or_second_lost, or_second_found}
 use Rattle.search_laws.proofs.FallsNew.{half_falls, halves_lighter}
 use Rattle.search_laws.proofs.FallsRight.{left_to_search}
-use Rattle.search_premises.specs.declared.Ready.TheVariants.{Go}
 use Rattle.search_premises.specs.Prepared as Prepared
 use Rattle.search_premises.specs.Prepared.{Half}
 use Rattle.search_premises.specs.Asked.{lacks, asks, HalfOf, Branched}
@@ -66,64 +66,51 @@ pub record Searches (m : Limits) (taken : List (List ℕ)) (x : Lent) (s : State
   pub carries : (r : Answer) (z : Lent) → Gives (tries m taken (seq_of y.records q1)) m y s1 q1 r z → Meets M.by_left m taken x s q r z
 
 module _ {m : Limits} {taken : List (List ℕ)} {x : Lent} {s : State} {q : Sequent} where
-  turned_at : {y : Lent} {r r1 : Next} → r ≡ r1 → Turned m taken x s q r y → Turned m taken x s q r1 y
-  turned_at {y} e t = subst (λ (v : Next). Turned m taken x s q v y) e t
+  pub turn_goes : {y : Lent} {s1 : State} {q1 : Sequent} → Turned m taken x s q (Ok (N.Go s1 q1)) y → GoesOn m taken x s q y s1 q1
+  turn_goes (turned_on g) = g
 
-  pub turn_goes : {y : Lent} {r : Next} {s1 : State} {q1 : Sequent} → r ≡ N.Go s1 q1 → Turned m taken x s q r y →
-      GoesOn m taken x s q y s1 q1
-  turn_goes e t = go (turned_at e t)
-    where
-      go : {y : Lent} {s1 : State} {q1 : Sequent} → Turned m taken x s q (N.Go s1 q1) y → GoesOn m taken x s q y s1 q1
-      go (turned_on g) = g
+  pub turn_ends : {y : Lent} {f : Found} → Turned m taken x s q (Ok (N.End f)) y → Meets M.by_left m taken x s q (Ok f) y
+  turn_ends (turned_end p) = p
 
-  pub turn_ends : {y : Lent} {r : Next} {a : Answer} → r ≡ N.End a → Turned m taken x s q r y → Meets M.by_left m taken x s q a y
-  turn_ends e t = go (turned_at e t)
-    where
-      go : {y : Lent} {a : Answer} → Turned m taken x s q (N.End a) y → Meets M.by_left m taken x s q a y
-      go (turned_end p) = p
+  pub turn_misses : {y : Lent} {e : Missed} → Turned m taken x s q (Err e) y → Meets M.by_left m taken x s q (Err e) y
+  turn_misses (turned_missed p) = p
 
-  pub turn_parts : {y : Lent} {r : Next} {s1 : State} {q1 : Sequent} → r ≡ N.Split s1 q1 → Turned m taken x s q r y →
-      Parts m taken x s q y s1 q1
-  turn_parts e t = go (turned_at e t)
-    where
-      go : {y : Lent} {s1 : State} {q1 : Sequent} → Turned m taken x s q (N.Split s1 q1) y → Parts m taken x s q y s1 q1
-      go (turned_split p) = record {
-        rep = p.rep;
-        is = p.is;
-        weighs = ap (λ (n : ℕ). weigh M.by_left x.words n x.records q) p.fill;
-        carries = p.carries;
-      }
+  pub turn_parts : {y : Lent} {s1 : State} {q1 : Sequent} → Turned m taken x s q (Ok (N.Split s1 q1)) y → Parts m taken x s q y s1 q1
+  turn_parts (turned_split p) = record {
+    rep = p.rep;
+    is = p.is;
+    weighs = ap (λ (n : ℕ). weigh M.by_left x.words n x.records q) p.fill;
+    carries = p.carries;
+  }
 
-  pub turn_tries : {y : Lent} {r : Next} {s1 : State} {q1 : Sequent} → r ≡ N.Try s1 q1 → Turned m taken x s q r y →
-      Searches m taken x s q y s1 q1
-  turn_tries e t = go (turned_at e t)
-    where
-      go : {y : Lent} {s1 : State} {q1 : Sequent} → Turned m taken x s q (N.Try s1 q1) y → Searches m taken x s q y s1 q1
-      go {s1 = s1} (turned_try p) = record {
-        rep = p.rep;
-        none = p.none;
-        less = omega (
-          arith,
-          left_to_search x.words s1.formulas x.records q,
-          ap (λ (n : ℕ). weigh M.by_left x.words n x.records q) p.fill,
-        );
-        carries = p.carries;
-      }
+  pub turn_tries : {y : Lent} {s1 : State} {q1 : Sequent} → Turned m taken x s q (Ok (N.Try s1 q1)) y → Searches m taken x s q y s1 q1
+  turn_tries {s1 = s1} (turned_try p) = record {
+    rep = p.rep;
+    none = p.none;
+    less = omega (
+      arith,
+      left_to_search x.words s1.formulas x.records q,
+      ap (λ (n : ℕ). weigh M.by_left x.words n x.records q) p.fill,
+    );
+    carries = p.carries;
+  }
 
 -- a half in the place of a heavier record
 pub half_less : {m : Limits} (taken : List (List ℕ)) {x y : Lent} {s s1 : State} {q q1 : Sequent} {a g : ℕ} → Rep m x s q → HalfOf x s q a →
-    g ≡ fresh taken s.indices → Half m x s q a g (Go s1 q1) y →
+    g ≡ fresh taken s.indices → Half m x s q a g (Ok (s1, q1)) y →
     weigh M.by_left y.words s1.formulas y.records q1 < weigh M.by_left x.words s.formulas x.records q
-half_less taken {a = a} rep ho eg (Prepared.ready t z mk up) = half_falls taken rep ho.some eg a ho.inside ho.lighter mk
+half_less taken {a = a} rep ho eg (Prepared.ready t mk up) = half_falls taken rep ho.some eg a ho.inside ho.lighter mk
 
--- the last ordered record is a disjunction
-module _ {m : Limits} (taken : List (List ℕ)) {x : Lent} {s : State} {q : Sequent} (rep : Rep m x s q) (sp : Splits x q) where
-  pub halves_of : {a : ℕ} → a ≡ top_formula x q → HalfOf x s q (left_at x.words a) × HalfOf x s q (right_at x.words a)
-  halves_of {a} ea =
-      let o = Or.or_parts taken rep sp.some sp.kind refl in
-      let l = halves_lighter taken rep sp.some sp.kind in
-      subst (λ (k : ℕ). HalfOf x s q (left_at x.words k) × HalfOf x s q (right_at x.words k)) (sym ea)
-      (record { some = sp.some; inside = o.0; lighter = l.0 }, record { some = sp.some; inside = o.1; lighter = l.1 })
+-- the last ordered record, of place p, is a disjunction: its formula is a
+module _ {m : Limits} {x : Lent} {s : State} {q : Sequent} (rep : Rep m x s q) (sp : Splits x q) {p a : ℕ} (ep : p ≡ top_place q)
+    (ea : a ≡ formula_at x.records p) where
+  top_is : a ≡ top_formula x q
+  top_is = ea ∙ ap (formula_at x.records) ep
+
+  pub left_half : {b : ℕ} → b ≡ left_at x.words a → HalfOf x s q b
+  left_half eb =
+      subst (HalfOf x s q) (sym (eb ∙ ap (left_at x.words) top_is))
+      (record { some = sp.some; inside = (Or.or_parts [] rep sp.some sp.kind refl).0; lighter = (halves_lighter [] rep sp.some sp.kind).0 })
 
   top_low : top_place q < (q.level + 1) * stretch
   top_low = omega (arith, sp.some, rep.seats.fits)
@@ -133,64 +120,77 @@ module _ {m : Limits} (taken : List (List ℕ)) {x : Lent} {s : State} {q : Sequ
     top_back : top_formula y q ≡ top_formula x q
     top_back = ap (λ (r : Rec). r.formula) (back.frame.records.at (top_place q) top_low)
 
-    pub splits_back : Splits y q
-    splits_back = record {
-      some = sp.some;
-      kind = ap (kind_at y.words) top_back
-          ∙ ap kind_of (back.frame.words.at (top_formula x q) (top_inside taken rep sp.some).formula_in) ∙ sp.kind;
-    }
+    word_back : get_or y.words (top_formula x q) 0 ≡ get_or x.words (top_formula x q) 0
+    word_back = back.frame.words.at (top_formula x q) (top_inside [] rep sp.some).formula_in
 
-    pub right_back : {a : ℕ} → a ≡ top_formula x q → (a ≡ top_formula y q) × (right_at y.words a ≡ right_at x.words (top_formula x q))
-    right_back ea = (
-      ea ∙ sym top_back,
-      ap (right_at y.words) ea ∙ ap right_of (back.frame.words.at (top_formula x q) (top_inside taken rep sp.some).formula_in),
-    )
+    splits_back : Splits y q
+    splits_back = record { some = sp.some; kind = ap (kind_at y.words) top_back ∙ ap kind_of word_back ∙ sp.kind }
 
-  module _ {g a : ℕ} (eg : g ≡ fresh taken s.indices) (ea : a ≡ left_at x.words (top_formula x q)) where
-    half_first : {y : Lent} {r : Answer} → Branched m taken x s q a g r y →
+    right_is : {b : ℕ} → b ≡ right_at y.words a → b ≡ right_at x.words (top_formula x q)
+    right_is eb = eb ∙ ap (right_at y.words) top_is ∙ ap right_of word_back
+
+    pub right_half : {b : ℕ} → b ≡ right_at y.words a → HalfOf y s2 q b
+    right_half eb =
+        let k = splits_back.kind in
+        subst (HalfOf y s2 q) (sym (eb ∙ ap (right_at y.words) (top_is ∙ sym top_back)))
+        (record {
+          some = sp.some;
+          inside = (Or.or_parts [] back.rep sp.some k refl).1;
+          lighter = (halves_lighter [] back.rep sp.some k).1;
+        })
+
+  -- and what its premises come to: the first half b is asked under the name g, and t is the term of the disjunction
+  module _ (taken : List (List ℕ)) {g b : ℕ} (eg : g ≡ fresh taken s.indices) (eb : b ≡ left_at x.words a) where
+    half_first : {y : Lent} {r : Answer} → Branched m taken x s q b g r y →
         Branched m taken x s q (left_at x.words (top_formula x q)) g r y
-    half_first {y} {r} p = subst (λ (k : ℕ). Branched m taken x s q k g r y) ea p
+    half_first {y} {r} h = subst (λ (k : ℕ). Branched m taken x s q k g r y) (eb ∙ ap (left_at x.words) top_is) h
 
-    pub or_lost : {y : Lent} {r : Answer} → Lost r → Branched m taken x s q a g r y → Goes M.by_left m taken x s q r y
-    or_lost l p = go (half_first p) l
+    pub or_lost : {y : Lent} {e : Missed} → Branched m taken x s q b g (Err e) y → Goes M.by_left m taken x s q (Err e) y
+    or_lost h = go (half_first h)
       where
-        go : {y : Lent} {r : Answer} → Branched m taken x s q (left_at x.words (top_formula x q)) g r y → Lost r →
-            Goes M.by_left m taken x s q r y
-        go (lacks t z) l = left_or_short taken rep sp.some sp.kind eg refl t z
-        go (asks t z mk up h) l = left_or_lost taken rep sp.some sp.kind eg mk l h
+        go : {y : Lent} {e : Missed} → Branched m taken x s q (left_at x.words (top_formula x q)) g (Err e) y →
+            Goes M.by_left m taken x s q (Err e) y
+        go (lacks (Prepared.lacks t)) = left_or_short taken rep sp.some sp.kind eg refl t
+        go (asks (Prepared.ready t mk up) h) = left_or_lost taken rep sp.some sp.kind eg mk h
 
-    -- the first half is found at node i, and the second half b is asked; h is the term of the disjunction
-    module _ {y : Lent} {i b h k : ℕ} {s2 : State} (p : Branched m taken x s q a g (Found i s2) y) (eh : h ≡ top_term x q)
-        (eb : b ≡ right_at x.words (top_formula x q)) (ek : k ≡ fresh taken s2.indices) where
-      or_then : {r : Answer} {v : Lent} → (Back m x s q s2 y → i < s2.terms → g < 4096 →
-          Gives (λ d S. or_second m taken (seq_of y.records q) (others y q) b h (name g) d i S) m y s2 q r v) →
+    -- the first half is found, and the second half c is asked under the name k
+    module _ {y : Lent} {f : Found} {t c k : ℕ} (first : Branched m taken x s q b g (Ok f) y) (et : t ≡ term_at x.records p)
+        (ec : c ≡ right_at y.words a) (ek : k ≡ fresh taken f.state.indices) where
+      term_is : t ≡ top_term x q
+      term_is = et ∙ ap (term_at x.records) ep
+
+      or_then : {r : Answer} {v : Lent} → (Back m x s q f.state y → f.node < f.state.terms → g < 4096 →
+          Gives (λ d S. or_second m taken (seq_of y.records q) (others y q) c t (name g) d f.node S) m y f.state q r v) →
           Goes M.by_left m taken x s q r v
-      or_then {r} {v} f = go (half_first p) f
+      or_then {r} {v} rest = go (half_first first) rest
         where
-          go : Branched m taken x s q (left_at x.words (top_formula x q)) g (Found i s2) y → (Back m x s q s2 y → i < s2.terms →
-              g < 4096 → Gives (λ d S. or_second m taken (seq_of y.records q) (others y q) b h (name g) d i S) m y s2 q r v) →
+          go : Branched m taken x s q (left_at x.words (top_formula x q)) g (Ok f) y →
+              (Back m x s q f.state y → f.node < f.state.terms → g < 4096 →
+              Gives (λ d S. or_second m taken (seq_of y.records q) (others y q) c t (name g) d f.node S) m y f.state q r v) →
               Goes M.by_left m taken x s q r v
-          go (asks t n mk up p1) f =
-              left_or_then taken rep sp.some sp.kind eg mk up p1 eh eb
-              (f (back_found mk rep up p1.kept) p1.kept.after.root_in (omega (arith, (passes t n).indices)))
+          go (asks (Prepared.ready n mk up) h) rest =
+              let back = back_found mk rep up h.kept in
+              left_or_then taken rep sp.some sp.kind eg mk up h term_is (right_is back ec)
+              (rest back h.kept.after.root_in (omega (arith, (passes n).indices)))
 
-      pub or_lost_second : {z : Lent} {r : Answer} → Lost r → Branched m taken y s2 q b k r z → Goes M.by_left m taken x s q r z
-      or_lost_second l p2 = or_then (λ back i_in few. go i back.rep ek l p2)
+      pub or_lost_second : {z : Lent} {e : Missed} → Branched m taken y f.state q c k (Err e) z → Goes M.by_left m taken x s q (Err e) z
+      or_lost_second second = or_then (λ back i_in few. go f.node back.rep ek second)
         where
-          go : {y z : Lent} {s2 : State} {r : Answer} (i : ℕ) → Rep m y s2 q → k ≡ fresh taken s2.indices → Lost r →
-              Branched m taken y s2 q b k r z →
-              Gives (λ d S. or_second m taken (seq_of y.records q) (others y q) b h (name g) d i S) m y s2 q r z
-          go i back ek l (lacks t n) = or_second_short taken back sp.some ek b h (name g) i refl t n
-          go i back ek l (asks t n mk up p1) = or_second_lost taken back sp.some ek b h (name g) i mk l p1
+          go : {y z : Lent} {s2 : State} {e : Missed} (i : ℕ) → Rep m y s2 q → k ≡ fresh taken s2.indices →
+              Branched m taken y s2 q c k (Err e) z →
+              Gives (λ d S. or_second m taken (seq_of y.records q) (others y q) c t (name g) d i S) m y s2 q (Err e) z
+          go i back ek (lacks (Prepared.lacks n)) = or_second_short taken back sp.some ek c t (name g) i refl n
+          go i back ek (asks (Prepared.ready n mk up) h) = or_second_lost taken back sp.some ek c t (name g) i mk h
 
-      pub or_found : {z : Lent} {j : ℕ} {s3 : State} {r : Answer} {t1 : List ℕ} → Branched m taken y s2 q b k (Found j s3) z →
-          Closes m z.numbers s3 (case h (name g) i (name k) j) r t1 → Goes M.by_left m taken x s q r (lent z.words t1 z.records)
-      or_found {z} {j} {s3} {r} {t1} p2 c = or_then (λ back i_in few. go back i_in few p2)
+      pub or_found : {z : Lent} {f2 : Found} {r : Answer} {t1 : List ℕ} → Branched m taken y f.state q c k (Ok f2) z →
+          Closes m z.numbers f2.state (case t (name g) f.node (name k) f2.node) r t1 →
+          Goes M.by_left m taken x s q r (lent z.words t1 z.records)
+      or_found {z} {f2} {r} {t1} second closes = or_then (λ back i_in few. go back i_in few second)
         where
-          go : Back m x s q s2 y → i < s2.terms → g < 4096 → Branched m taken y s2 q b k (Found j s3) z →
-              Gives (λ d S. or_second m taken (seq_of y.records q) (others y q) b h (name g) d i S) m y s2 q r
+          go : Back m x s q f.state y → f.node < f.state.terms → g < 4096 → Branched m taken y f.state q c k (Ok f2) z →
+              Gives (λ d S. or_second m taken (seq_of y.records q) (others y q) c t (name g) d f.node S) m y f.state q r
               (lent z.words t1 z.records)
-          go back i_in few (asks t n mk up p1) =
-              or_second_found taken back.rep sp.some ek b h (name g) i mk
-              (omega (arith, eh, (top_inside taken rep sp.some).term_in, back.terms_up)) i_in (omega arith)
-              (omega (arith, (passes t n).indices)) up p1 c
+          go back i_in few (asks (Prepared.ready n mk up) h) =
+              or_second_found taken back.rep sp.some ek c t (name g) f.node mk
+              (omega (arith, term_is, (top_inside taken rep sp.some).term_in, back.terms_up)) i_in (omega arith)
+              (omega (arith, (passes n).indices)) up h closes

@@ -1,50 +1,25 @@
 -- `second` meets its contract: a charge that passes a limit, or the second premise of rule 4. Assumes nothing.
 use native.Mathlib.Omega.{arith}
-use Prim.Native.Nat.{◌+◌}
-use Rattle.search_premises.specs.Prepared.{lacks}
 use mathlib.Core.Path.{refl}
-use Rattle.search_laws.proofs.Areas.{fields}
-use Rattle.search_premises.proofs.Makes.{up_room, area_room, copy_room, spend_room, second_on}
+use Rattle.meter.proofs.Laws.{carried}
+use Rattle.search_laws.proofs.Charge.{passes}
+use Rattle.search_premises.proofs.Makes.{tested, prepares_short, second_on}
 use Rattle.search_premises.proofs.second.Goals as goal
 
-pub returns-then-n-ne0 : goal.returns-then-n-ne0
-returns-then-n-ne0 c =
-    lacks (record { is = c.lack-n.ensures }) c.if-n-ne0.true
+pub returns-in_err-charge : goal.returns-in_err-charge
+returns-in_err-charge c =
+    rw (carried c.from_residual.ensures) (prepares_short (tested c.in_err-charge.ensures))
 
-pub copy_up-requires : goal.copy_up-requires
-copy_up-requires c =
-    copy_room c.requires.represented c.args.state.indices c.args.state.formulas (c.args.state.terms + 1)
-    (c.args.sequent.unordered + c.args.sequent.ordered) c.lack-n.ensures c.if-n-ne0.false
-
-pub up-requires : goal.up-requires
-up-requires c =
-    let o = up_room c.requires.represented c.args.state.indices c.args.state.formulas (c.args.state.terms + 1)
-    (c.args.sequent.unordered + c.args.sequent.ordered) c.lack-n.ensures c.if-n-ne0.false in omega arith
-
-pub remove-q1-requires : goal.remove-q1-requires
-remove-q1-requires c =
-    let r = c.requires.represented in let n = c.requires.nested.here in let o = up_room c.requires.represented
-    c.args.state.indices c.args.state.formulas
-    (c.args.state.terms + 1) (c.args.sequent.unordered + c.args.sequent.ordered) c.lack-n.ensures c.if-n-ne0.false in
-    let a = area_room c.requires.represented c.args.state.indices c.args.state.formulas (c.args.state.terms + 1)
-    (c.args.sequent.unordered + c.args.sequent.ordered) c.lack-n.ensures c.if-n-ne0.false in let k = c.copy_up.auto in
-    let h = fields c.up.ensures in (omega arith, omega arith, omega (arith, r.seats.fits), omega arith)
-
-pub push-q2-requires : goal.push-q2-requires
-push-q2-requires c =
-    let r = c.requires.represented in let n = c.requires.nested.here in let o = up_room c.requires.represented
-    c.args.state.indices c.args.state.formulas
-    (c.args.state.terms + 1) (c.args.sequent.unordered + c.args.sequent.ordered) c.lack-n.ensures c.if-n-ne0.false in
-    let h = fields c.up.ensures in let g = fields c.remove-q1.ensures.result in (omega arith, omega (arith, r.seats.fits))
+pub replace-next-requires : goal.replace-next-requires
+replace-next-requires c =
+    let p = passes (tested c.in_ok-charge.ensures) in let r = c.requires.represented in omega (arith, r.rooms, r.seats.fits)
 
 pub spend-requires : goal.spend-requires
 spend-requires c =
-    let o = spend_room c.requires.represented c.args.state.indices c.args.state.formulas (c.args.state.terms + 1)
-    (c.args.sequent.unordered + c.args.sequent.ordered) c.lack-n.ensures c.if-n-ne0.false in (omega arith, o.1)
+    let p = passes (tested c.in_ok-charge.ensures) in let r = c.requires.represented in
+    omega (arith, r.rooms.most_formulas, r.rooms.most_terms)
 
 pub returns : goal.returns
 returns c =
-    second_on c.requires.represented c.requires.nested refl c.formula_at-a.ensures
-    c.requires.proof c.lack-n.ensures c.if-n-ne0.false
-    c.term_at.ensures c.put.ensures c.copy_up.ensures c.up.ensures c.remove-q1.ensures.work
-    c.remove-q1.ensures.result c.right.ensures c.push-q2.ensures.work c.push-q2.ensures.result c.spend.ensures
+    second_on c.requires.represented c.requires.nested c.requires.proof (tested c.in_ok-charge.ensures) refl c.term_at.ensures
+    c.put.ensures c.formula_at.ensures c.right_at-c.ensures c.replace-next.ensures.work c.replace-next.ensures.result c.spend.ensures
