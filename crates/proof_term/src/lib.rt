@@ -3,7 +3,7 @@
 ghost use Rattle.std.specs.Prelude.{◌≡◌, ◌*◌, ◌<◌, length, get_or, take};
 ghost use Rattle.theory.specs.Term.{six_of};
 ghost use Rattle.theory.specs.NameText.{names_in, padded};
-ghost use Rattle.theory.specs.Layout.{node_width, lawful_name, lawful_field, lawful_node};
+ghost use Rattle.theory.specs.Layout.{node_width, lawful_field, lawful_node};
 ghost use Rattle.proof_term.specs.Kinds.{piece_of, field_as, Settles};
 ghost use Rattle.proof_term.specs.Put.{put_node};
 
@@ -13,7 +13,8 @@ use identifier_generator::{GENERATED, LAST_INDEX, Names};
 // A node is so many numbers: its kind, then its fields.
 pub const WIDTH: usize = 6;
 
-// The kinds of nodes, in the order of `ProofTerm`; LetIn (6) and Sorry (13) are none.
+// The kinds of nodes, in the order of `ProofTerm`; LetIn (6) and Sorry (13) are none. They are numbers, as the lent nodes hold them
+// (document 01); what has a node at hand goes by `Node`.
 const IDENT: usize = 0;
 
 const PAIR: usize = 1;
@@ -170,27 +171,19 @@ pub fn count_names(text: &[u8]) -> usize
     Names(text).count()
 }
 
-// Whether x is a name's number: that of one of the text's `names` names, or of a generated one that none of them is spelled like.
-#[tactic(auto, unfolding(theory::specs::Layout::lawful_name))]
-fn lawful_name(x: usize, names: usize, text: &[u8]) -> bool
-    requires { names ≡ length (names_in text.now) }
-    ensures { result ≡ lawful_name (names_in text.now) x }
-{
-    if x < GENERATED {
-        return x < names;
-    }
-    let g = x - GENERATED;
-    g <= LAST_INDEX && !identifier_generator::spelled_like(text, g)
-}
-
-// Whether number x may stand in such a field of node i, over `count` formulas.
-#[tactic(auto, unfolding(theory::specs::Layout::lawful_field))]
+// Whether number x may stand in such a field of node i, over `count` formulas. A name is one of the text's `names` names, or a generated one
+// that none of them is spelled like.
+#[tactic(auto, unfolding(theory::specs::Layout::lawful_field, theory::specs::Layout::lawful_name))]
 fn lawful_field(field: Field, x: usize, i: usize, count: usize, names: usize, text: &[u8]) -> bool
     requires { names ≡ length (names_in text.now) }
     ensures { result ≡ lawful_field (names_in text.now) count i (field_as field) x }
 {
     match field {
-        Name => lawful_name(x, names, text),
+        Name if x < GENERATED => x < names,
+        Name => {
+            let g = x - GENERATED;
+            g <= LAST_INDEX && !identifier_generator::spelled_like(text, g)
+        }
         Child => x < i,
         Formula => x < count,
         Unused => x == 0,

@@ -3,6 +3,8 @@
 // fires. Left's turn asks them, since what fires goes on by left: in left's loop a million of them in a row use no stack. Search's rules 3
 // to 5, the tries, are `prove`'s `search`.
 // What is `pub` here is for the search's own crates: a `requires` is what their code shows before it calls.
+// The lent slices stay separate parameters. A struct that holds them was tried, and the proof didn't close: after a shared read of a `&mut`
+// field nothing is known of its elements, and each call would owe a clause for the slices that it leaves alone.
 ghost use Rattle.std.specs.Prelude.{◌≡◌, List, ℕ, ◌+◌, ◌*◌, ◌≤◌, ◌<◌, length, get_or, set};
 ghost use Rattle.theory.specs.Term.{app, six_of};
 ghost use Rattle.proof_term.specs.Put.{put_node};

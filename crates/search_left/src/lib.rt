@@ -1,6 +1,8 @@
 #![tactic(auto)]
 // What one rule of left writes and charges, where it asks nothing of another judgement; and the nodes and words that rules write.
 // What is `pub` here is for the crate `prove`: a `requires` is what its code shows before it calls.
+// The lent slices stay separate parameters. A struct that holds them was tried, and the proof didn't close: after a shared read of a `&mut`
+// field nothing is known of its elements, and each call would owe a clause for the slices that it leaves alone.
 ghost use Rattle.std.specs.Prelude.{◌≡◌, List, ℕ, ◌+◌, ◌≤◌, ◌<◌, length, map, set};
 ghost use Rattle.theory.specs.Form.{is_imp, word};
 ghost use Rattle.theory.specs.NameText.{names_in};
