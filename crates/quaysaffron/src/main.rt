@@ -33,6 +33,7 @@ fn read_rest<R: Read>(from: &mut R, buf: &mut [u8], start: usize) -> io::Result<
     ensures end { IfOk result (λ n. n < length buf.new → IsAtEnd (R.remaining from.new)) }
 {
     let mut done = start;
+    // a `while`: how many bytes a turn adds is the reader's to say
     while done < buf.len() {
         let all = read_more(from, buf, done)?;
         if all == done {
@@ -95,6 +96,7 @@ fn answer_file(rt: &(impl Files + Print + Eprint), name: &str) -> ExitCode {
     }
 }
 
+// The file's name stands in an array too.
 fn main(rt: HostRuntime) -> ExitCode {
     let mut path = [0u8; 4096];
     let name = "the file's name";

@@ -37,6 +37,6 @@ module _ {A : Type 0} (value : List ℕ → ℕ → A) (wide : ℕ) (s : List �
   pub laid_end : (n i at : ℕ) (l : List A) → min n (length l) ≤ i → laid value wide s (n - i) i at l ≡ l
   unfolding laid
   laid_end n i at l h = elim (cases_lt i n) [
-      inl below ↦ laid_out (n - i) i at l (omega (arith, h, below))
+    | inl below ↦ laid_out (n - i) i at l (omega (arith, h, below))
     | inr above ↦ (let e : n - i ≡ 0 = omega arith in ap (λ (k : ℕ). laid value wide s k i at l) e)
-    ]
+  ]

@@ -39,7 +39,7 @@ pub fn word(list: &[u8], at: usize) -> u32
     u32::from(half(list, at)) + 65536 * u32::from(half(list, after(list, at, 2)))
 }
 
-// The number at a position: below 254 it is one byte, else two bytes after a 254 or four after a 255.
+// The number at a position: below 254 it is one byte, else two bytes after a 254 or four after a 255. (std has no `From<u32>` for usize.)
 pub fn value(list: &[u8], at: usize) -> usize
     ensures { result < 4294967296 }
 {

@@ -43,6 +43,7 @@ pub fn read<T: Number>(list: &[u8], at: usize, n: usize, numbers: &mut [T])
     ensures { numbers.new ≡ laid T.value_at T.BYTES list.now n 0 at numbers.old }
 {
     let mut next = at;
+    // by index: of the elements that an `iter_mut` lends nothing is known afterwards
     for i in 0..n.min(numbers.len()) {
         numbers[i] = T::at(list, next);
         next = crate::after(list, next, T::BYTES);

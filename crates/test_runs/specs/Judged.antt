@@ -1,7 +1,7 @@
 -- What the search of a row is, and what is asked of the lent words and numbers after a call. Assumes nothing.
 use Rattle.std.specs.Prelude.{ℕ, List, length}
 use Rattle.context.specs.Area.{Rec}
-use Rattle.call.specs.declared.Outcome.{Outcome}
+use Rattle.call.specs.Outcomes.{Outcome}
 use Rattle.call.specs.Lent.{claim_of}
 use Rattle.call.specs.Whole.{Called}
 use Rattle.test_rows.specs.Bytes.{Are}

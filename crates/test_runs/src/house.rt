@@ -1,7 +1,8 @@
 // A house file through the one function from its bytes to the bytes that the program prints.
 ghost use Rattle.std.specs.Prelude.{◌<◌};
 
-use crate::{Answer, Call, NO_CALL, Row};
+use crate::numbers::NO_CALL;
+use crate::{Answer, Call, Row};
 
 fn digit(b: u8) -> usize
     ensures { result < 48 }

@@ -8,42 +8,24 @@
 mod book;
 mod house;
 mod inquiry;
+mod numbers;
 mod row;
 mod search;
 mod writer;
 
 pub use book::Book;
+pub use numbers::Call;
 pub use row::{Field, Kind, Row, again, behind_head};
 
 // The most bytes that come back: what the program prints for a house file.
 pub const MOST_TEXT: usize = 32835;
 
-// One more word and one more node than document 01 lets anyone lend, so that too much can be lent too.
+// One more word, node and record than document 01 lets anyone lend, so that too much can be lent too.
 const MOST_WORDS: usize = 16385;
 
 const MOST_NUMBERS: usize = 98310;
 
-// The numbers of a call, in document 01's order; of a status, the verdict stands in the root's place.
-#[derive(Clone, Copy, PartialEq, Eq)]
-pub struct Call {
-    pub number: usize,
-    pub place: usize,
-    pub root: usize,
-    pub steps: usize,
-    pub indices: usize,
-    pub formulas: usize,
-    pub terms: usize,
-}
-
-const NO_CALL: Call = Call {
-    number: 0,
-    place: 0,
-    root: 0,
-    steps: 0,
-    indices: 0,
-    formulas: 0,
-    terms: 0,
-};
+const MOST_RECORDS: usize = 16385;
 
 // What came back: the numbers of the call, the writer's number, the length and the checksum of the text, and whether each lent slice holds
 // what document 01 says.

@@ -1,60 +1,16 @@
 // A claim through the public call, and its term through the writer. The lent slices serve the status too.
 ghost use Rattle.std.specs.Prelude.{◌≡◌, true, length};
-ghost use Rattle.call.specs.Outcomes.{numbers_of};
 ghost use Rattle.test_runs.specs.Judged.{Asked, RestHolds};
-ghost use Rattle.test_runs.specs.Told.{call_of};
 
-use crate::writer::{Draft, Written};
-use crate::{Answer, Call, Field, Kind, MOST_NUMBERS, MOST_WORDS, NO_CALL, Row};
-use call::Outcome;
+use crate::writer::Written;
+use crate::{Answer, Field, Kind, MOST_NUMBERS, MOST_RECORDS, MOST_WORDS, Row};
+use call::{NoAnswer, Outcome, Verdict};
 use context::Record;
+use house_text::Draft;
+use proof_term::WIDTH;
 
 // One more than document 01 allows.
 const MOST_ASSUMPTIONS: usize = 65;
-
-// The numbers that come back.
-fn numbers(outcome: Outcome) -> Call
-    ensures { result ≡ call_of (numbers_of outcome) }
-{
-    match outcome {
-        Outcome::Proved {
-            root,
-            steps,
-            indices,
-            formulas,
-            terms,
-        } => Call {
-            root,
-            steps,
-            indices,
-            formulas,
-            terms,
-            ..NO_CALL
-        },
-        Outcome::Unprovable {
-            steps,
-            indices,
-            formulas,
-            terms,
-        } => Call {
-            steps,
-            indices,
-            formulas,
-            terms,
-            ..NO_CALL
-        },
-        Outcome::Short { number, steps } => Call {
-            number,
-            steps,
-            ..NO_CALL
-        },
-        Outcome::Refused { number, place } => Call {
-            number,
-            place,
-            ..NO_CALL
-        },
-    }
-}
 
 // Reads the words and the assumptions' indices of a book.
 fn read(row: Row, assumed: &mut [u16], words: &mut [u32])
@@ -82,7 +38,7 @@ fn ask(
     prove::prove(words, row.count(), assumed, names, goal, terms, work, steps)
 }
 
-// What lies above the given words and the nodes that stay: zero after an answer or a shortage, junk still after a refusal.
+// What lies above the given words and the nodes that stay.
 #[derive(Clone, Copy)]
 pub struct Rest {
     pub words: usize,
@@ -90,44 +46,31 @@ pub struct Rest {
     pub value: u8,
 }
 
-fn left_over(row: Row, outcome: Outcome) -> Rest {
-    let bare = Rest {
-        words: row.book.given(),
-        numbers: 0,
-        value: 0,
-    };
+// Every value there: zero after an answer or a shortage, junk still after a refusal.
+pub fn value_left<T: Copy>(row: Row, outcome: Result<T, NoAnswer>) -> u8 {
     match outcome {
-        Outcome::Proved {
-            root: _,
-            steps: _,
-            indices: _,
-            formulas,
-            terms,
-        } => Rest {
-            words: formulas,
-            numbers: proof_term::WIDTH * terms.min(MOST_NUMBERS),
-            value: 0,
-        },
-        Outcome::Unprovable {
-            steps: _,
-            indices: _,
-            formulas,
-            terms: _,
-        } => Rest {
-            words: formulas,
-            ..bare
-        },
-        Outcome::Short {
-            number: _,
-            steps: _,
-        } => bare,
-        Outcome::Refused {
-            number: _,
-            place: _,
-        } => Rest {
-            value: row.junk(),
-            ..bare
-        },
+        Err(NoAnswer::Refused(_)) => row.junk(),
+        _ => 0,
+    }
+}
+
+fn left_over(row: Row, outcome: Outcome) -> Rest {
+    let value = value_left(row, outcome);
+    let (words, numbers) = match outcome {
+        Ok(
+            Verdict::Proved {
+                formulas,
+                terms,
+                ..
+            },
+        ) => (formulas, WIDTH * terms.min(MOST_NUMBERS)),
+        Ok(Verdict::Unprovable { formulas, .. }) => (formulas, 0),
+        Err(_) => (row.book.given(), 0),
+    };
+    Rest {
+        words,
+        numbers,
+        value,
     }
 }
 
@@ -149,13 +92,14 @@ fn write(
     outcome: Outcome,
     text: &mut [u8],
 ) -> Option<Written> {
-    let Outcome::Proved {
-        root,
-        steps: _,
-        indices: _,
-        formulas,
-        terms: nodes,
-    } = outcome
+    let Ok(
+        Verdict::Proved {
+            root,
+            formulas,
+            terms: nodes,
+            ..
+        },
+    ) = outcome
     else {
         return None;
     };
@@ -171,7 +115,8 @@ fn write(
     Some(crate::writer::write(draft, text))
 }
 
-// Asks the call, writes the term, and judges what the slices hold.
+// Asks the call, writes the term, and judges what the slices hold. The lent slices stay parameters of their own: of the elements of a slice
+// in a struct nothing is known after a shared read.
 fn answer(
     row: Row,
     assumed: &[u16],
@@ -188,7 +133,7 @@ fn answer(
     let right = crate::writer::kept(text, written, row.junk());
     let (writer, length) = crate::writer::told(written);
     Answer {
-        call: numbers(outcome),
+        call: crate::numbers::of_outcome(outcome),
         writer,
         length,
         checksum: crate::writer::checksum(text, length),
@@ -222,12 +167,12 @@ fn lend(
     answer(row, assumed, words, terms, work, text)
 }
 
-// Runs a claim, or asks a status, over slices full of junk. The work area is made here and lent from here on.
+// Runs a claim, or asks a status, over slices full of junk. They are arrays, since no library takes memory while it runs.
 pub fn run(row: Row, text: &mut [u8]) -> Answer {
     let junk = row.junk();
     let mut assumed = [0u16; MOST_ASSUMPTIONS];
     let mut words = [u32::from(junk); MOST_WORDS];
     let mut terms = [u16::from(junk); MOST_NUMBERS];
-    let mut work = test_rows::filled(u16::from(junk));
+    let mut work = context::filled::<MOST_RECORDS>(u16::from(junk));
     lend(row, &mut assumed, &mut words, &mut terms, &mut work, text)
 }

@@ -1,123 +1,49 @@
 // A term through the writer.
 ghost use Rattle.std.specs.Prelude.{◌<◌};
 
-use crate::{Answer, Call, Field, MOST_NUMBERS, MOST_WORDS, NO_CALL, Row};
+use crate::numbers::NO_CALL;
+use crate::{Answer, Call, Field, MOST_NUMBERS, MOST_WORDS, Row};
+use house_text::{Draft, TextRefusal};
 
 // What the spare buffer holds before the writer is asked.
 const SPARE: u8 = 90;
 
-#[derive(Clone, Copy)]
-pub struct Draft<'a> {
-    pub words: &'a [u32],
-    pub count: usize,
-    pub assumptions: usize,
-    pub names: &'a [u8],
-    pub terms: &'a [u16],
-    pub nodes: usize,
-    pub root: usize,
-}
-
-#[derive(Clone, Copy, PartialEq, Eq)]
-pub struct Fault(usize, usize);
-
-impl Fault {
-    fn number(self) -> usize {
-        self.0
-    }
-
-    fn place(self) -> usize {
-        self.1
-    }
-}
-
-fn result(length: usize, number: usize, place: usize) -> Result<usize, Fault> {
-    if number == 0 {
-        Ok(length)
-    } else {
-        Err(Fault(number, place))
-    }
-}
-
-fn write_text(draft: Draft, text: &mut [u8]) -> Result<usize, Fault> {
-    let mut number = 0;
-    let mut place = 0;
-    let length = house_text::write_text(
-        draft.words,
-        draft.count,
-        draft.assumptions,
-        draft.names,
-        draft.terms,
-        draft.nodes,
-        draft.root,
-        text,
-        &mut number,
-        &mut place,
-    );
-    result(length, number, place)
-}
-
 // What the writer gave: how many bytes, or its refusal, and whether its two forms gave the same.
 #[derive(Clone, Copy)]
 pub struct Written {
-    pub given: Result<usize, Fault>,
+    pub given: Result<usize, TextRefusal>,
     pub alike: bool,
 }
 
 // The writer's number and how many bytes it wrote; 0 of both where it was not asked.
 pub fn told(written: Option<Written>) -> (usize, usize) {
-    match written {
-        Some(
-            Written {
-                given: Ok(length),
-                alike: _,
-            },
-        ) => (0, length),
-        Some(
-            Written {
-                given: Err(refusal),
-                alike: _,
-            },
-        ) => (refusal.number(), 0),
+    match written.map(|written| written.given) {
+        Some(Ok(length)) => (0, length),
+        Some(Err(refusal)) => (refusal.number(), 0),
         None => (0, 0),
     }
 }
 
 // Asks the writer for the text as a part of a buffer, and holds it against what came of the other form, whose text stands at the front.
-fn alike(draft: Draft, spare: &mut [u8], given: Result<usize, Fault>, text: &[u8]) -> bool {
-    let mut number = 0;
-    let mut place = 0;
-    let part = house_text::write(
-        draft.words,
-        draft.count,
-        draft.assumptions,
-        draft.names,
-        draft.terms,
-        draft.nodes,
-        draft.root,
-        spare,
-        &mut number,
-        &mut place,
-    );
-    let length = part.len();
-    let alike = text.starts_with(part);
-    let handed = result(length, number, place);
-    handed == given
-        && kept(
-            spare,
-            Some(Written {
-                given: handed,
-                alike,
-            }),
-            SPARE,
-        )
+fn hands_same(
+    draft: Draft,
+    spare: &mut [u8],
+    given: Result<usize, TextRefusal>,
+    text: &[u8],
+) -> bool {
+    let (handed, alike) = match house_text::write(draft, spare) {
+        Ok(part) => (Ok(part.len()), text.starts_with(part)),
+        Err(refusal) => (Err(refusal), true),
+    };
+    handed == given && kept(spare, Some(Written { given, alike }), SPARE)
 }
 
 // Asks the writer in both of its forms, each over a buffer of its own and as long.
 pub fn write(draft: Draft, text: &mut [u8]) -> Written {
-    let given = write_text(draft, text);
+    let given = house_text::write_text(draft, text);
     let mut spare = [SPARE; crate::MOST_TEXT];
     let room = text.len().min(crate::MOST_TEXT);
-    let alike = alike(draft, &mut spare[..room], given, text);
+    let alike = hands_same(draft, &mut spare[..room], given, text);
     Written { given, alike }
 }
 
@@ -130,8 +56,8 @@ pub fn kept(text: &[u8], written: Option<Written>, junk: u8) -> bool {
     written.alike
         && match written.given {
             Ok(length) => test_rows::all_are(text, length, 0),
-            Err(Fault(12, _)) => test_rows::all_are(text, 0, 0),
-            Err(Fault(_, _)) => test_rows::all_are(text, 0, junk),
+            Err(TextRefusal::NoRoom) => test_rows::all_are(text, 0, 0),
+            Err(TextRefusal::Refused(_)) => test_rows::all_are(text, 0, junk),
         }
 }
 
