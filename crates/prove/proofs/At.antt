@@ -1,4 +1,4 @@
--- What a call came to, at the answer that the code has matched; and the positions that rule 4 tries. Assumes nothing.
+-- The positions that rule 4 tries. Assumes nothing.
 use Prim.Native.Nat.{ℕ, ◌<◌}
 use mathlib.Core.Path.{◌≡◌, refl, sym, subst}
 use mathlib.Core.Bool.{Bool, true, false, ◌&&◌}
@@ -10,28 +10,13 @@ use Rattle.theory.specs.Meter as M
 use Rattle.meter.specs.declared.State.{State}
 use Rattle.meter.specs.declared.Sequent.{Sequent}
 use Rattle.meter.specs.declared.Limits.{Limits}
-use Rattle.meter.specs.declared.Answer.{Answer}
 use Rattle.search_laws.specs.Reading.{Lent, kind_at, Shows}
 use Rattle.search_laws.specs.Keeping.{Rep}
-use Rattle.search_laws.specs.Meaning.{Meets}
-use Rattle.search_laws.specs.Trying.{Next, trying, TriesAt}
+use Rattle.search_laws.specs.Trying.{Next, trying}
 use Rattle.search_laws.specs.Records.{formula_of, premise_of}
 use Rattle.search_laws.proofs.Four.{skips_other, skips_flat}
 use Rattle.search_left.specs.Last.{nested}
 use Rattle.search_premises.specs.Prepared.{Nested}
-use Rattle.search_premises.specs.Asked.{FirstOf}
-
-pub meets_at : {j : M.Judgement} {m : Limits} {taken : List (List ℕ)} {x y : Lent} {s : State} {q : Sequent} {r r1 : Answer} → r ≡ r1 →
-    Meets j m taken x s q r y → Meets j m taken x s q r1 y
-meets_at {j} {m} {taken} {x} {y} {s} {q} e p = subst (λ (v : Answer). Meets j m taken x s q v y) e p
-
-pub first_at : {m : Limits} {taken : List (List ℕ)} {x y : Lent} {s : State} {q : Sequent} {i : ℕ} {r r1 : Answer} → r ≡ r1 →
-    FirstOf m taken x s q i r y → FirstOf m taken x s q i r1 y
-first_at {m} {taken} {x} {y} {s} {q} {i} e p = subst (λ (v : Answer). FirstOf m taken x s q i v y) e p
-
-pub tries_at : {m : Limits} {taken : List (List ℕ)} {x y : Lent} {s : State} {q : Sequent} {i : ℕ} {r r1 : Answer} → r ≡ r1 →
-    TriesAt m taken x s q i r y → TriesAt m taken x s q i r1 y
-tries_at {m} {taken} {x} {y} {s} {q} {i} e p = subst (λ (v : Answer). TriesAt m taken x s q i v y) e p
 
 -- the two tests of a position
 both : (a b : ℕ) → eqb a 5 && eqb b 5 ≡ true → (a ≡ 5) × (b ≡ 5)

@@ -1,7 +1,7 @@
 -- What falls in the cycle: eight times the weight of the sequent by right, left or search, and the member's rank among those that are
 -- entered with the same sequent. Left and the positions go on in loops; each outcome that fits from here fits from the start.
 -- Assumes nothing.
-use Rattle.std.proofs.Common.{◌≡◌, ◌+◌, ◌-◌, ◌*◌, length}
+use Rattle.std.proofs.Common.{◌≡◌, ◌+◌, ◌*◌, length}
 use Rattle.theory.specs.NameText.{names_in}
 use Rattle.theory.specs.Names.{skipped}
 use Rattle.theory.specs.Meter as M
@@ -16,9 +16,6 @@ decreases-attempt l = weigh M.by_search l.words.now l.state.formulas l.work.now 
 
 abbrev pub decreases-branch : goal.decreases-branch
 decreases-branch l = weigh M.by_left l.words.now l.state.formulas l.work.now l.sequent * 8 + 5
-
-abbrev pub decreases-first_premise : goal.decreases-first_premise
-decreases-first_premise l = weigh M.by_search l.words.now l.state.formulas l.work.now l.sequent * 8 + 3
 
 abbrev pub decreases-left : goal.decreases-left
 decreases-left l = weigh M.by_left l.words.now l.state.formulas l.work.now l.sequent * 8 + 7
@@ -47,14 +44,11 @@ decreases-search l = weigh M.by_search l.words.now l.state.formulas l.work.now l
 abbrev pub decreases-second_half : goal.decreases-second_half
 decreases-second_half l = weigh M.by_search l.words.now l.state.formulas l.work.now l.sequent * 8 + 6
 
-abbrev pub decreases-second_premise : goal.decreases-second_premise
-decreases-second_premise l = weigh M.by_search l.words.now l.state.formulas l.work.now l.sequent * 8 + 3
-
 abbrev pub invariant-left-loop-s1 : goal.invariant-left-loop-s1
 invariant-left-loop-s1 l =
     (length l.words ≡ length l.initial.words) × (length l.terms ≡ length l.initial.terms) × (length l.work ≡ length l.initial.work) ×
-    Onward l.limits (skipped (names_in l.names)) (lent l.initial.words l.initial.terms l.initial.work) l.initial.s l.initial.p
-    (lent l.words l.terms l.work) l.s l.p
+    Onward l.setting.limits (skipped (names_in l.setting.names.now)) (lent l.initial.words l.initial.terms l.initial.work)
+    l.initial.s l.initial.p (lent l.words l.terms l.work) l.s l.p
 
 abbrev pub decreases-left-loop-s1 : goal.decreases-left-loop-s1
 decreases-left-loop-s1 l = weigh M.by_left l.words l.s.formulas l.work l.p
@@ -62,8 +56,5 @@ decreases-left-loop-s1 l = weigh M.by_left l.words l.s.formulas l.work l.p
 abbrev pub invariant-positions-loop-i : goal.invariant-positions-loop-i
 invariant-positions-loop-i l =
     (length l.words ≡ length l.initial.words) × (length l.terms ≡ length l.initial.terms) × (length l.work ≡ length l.initial.work) ×
-    Going l.limits (skipped (names_in l.names)) (lent l.initial.words l.initial.terms l.initial.work) l.initial.s l.sequent l.i
-    (lent l.words l.terms l.work) l.s
-
-abbrev pub decreases-positions-loop-i : goal.decreases-positions-loop-i
-decreases-positions-loop-i l = l.sequent.unordered - l.i
+    Going l.setting.limits (skipped (names_in l.setting.names.now)) (lent l.initial.words l.initial.terms l.initial.work)
+    l.initial.s l.sequent l.i (lent l.words l.terms l.work) l.s

@@ -4,8 +4,6 @@ use native.Mathlib.Omega.{arith}
 use Rattle.theory.proofs.Passing.{passes}
 use Rattle.call.proofs.First.{few_names}
 use Rattle.call.proofs.Ending.{ends_short, right_asks, right_ends}
-use lib.ListN.{length}
-use Rattle.call.specs.Lent.{claim_of}
 use Rattle.prove.proofs.start.Goals as goal
 
 pub returns-then-limits-assumed : goal.returns-then-limits-assumed
@@ -17,20 +15,20 @@ pub assume-sequent-requires : goal.assume-sequent-requires
 assume-sequent-requires c =
     (passes _ c.requires).few
 
+pub invariant_of-right : goal.invariant_of-right
+invariant_of-right c =
+    record { few = few_names _ c.args.work.now c.requires refl }
+
 pub right-requires : goal.right-requires
 right-requires c =
     let e = c.assume-sequent.ensures in
-    let x = claim_of c.args.words.now c.args.count c.args.assumed.now c.args.names.now c.args.goal c.args.terms.now
-    (length c.args.work.now) c.args.steps in record {
-      represented = right_asks x c.args.work.now c.requires refl c.limits-limits.ensures e.terms e.work e.result c.if-limits-assumed.false;
-      few = few_names x c.args.work.now c.requires refl;
+    record {
+      represented = right_asks _ c.args.work.now c.requires refl c.limits-limits.ensures e.terms e.work e.result
+          c.if-limits-assumed.false;
     }
 
 pub returns : goal.returns
 returns c =
-    let x = claim_of c.args.words.now c.args.count c.args.assumed.now c.args.names.now c.args.goal c.args.terms.now
-    (length c.args.work.now) c.args.steps in
     let e = c.assume-sequent.ensures in
-    right_ends x c.args.work.now c.requires refl
-    c.limits-limits.ensures e.terms e.work e.result c.if-limits-assumed.false
+    right_ends _ c.args.work.now c.requires refl c.limits-limits.ensures e.terms e.work e.result c.if-limits-assumed.false
     c.right.ensures
