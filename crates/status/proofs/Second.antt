@@ -1,7 +1,7 @@
 -- The status of a goal that has no proof: whether it is open, the claim with False and goal→False appended, and what the search of that
 -- claim says. Assumes nothing.
 use Prim.Native.Nat.{ℕ, suc, ◌+◌, ◌%◌, ◌≤◌, ◌<◌}
-use mathlib.Core.Path.{◌≡◌, refl, sym, ap, ap₂, ◌∙◌, subst}
+use mathlib.Core.Path.{◌≡◌, sym, ap, ap₂, ◌∙◌, subst}
 use mathlib.Core.Bool.{Bool, true, false}
 use mathlib.Core.Option.{none}
 use mathlib.Core.List.{List, [], ◌∷◌, map}
@@ -9,9 +9,6 @@ use native.Mathlib.Omega.{arith}
 use lib.ListN.{length, set, take, drop, replicate}
 use lib.Seq.{take_at, take-take}
 use Rattle.theory.specs.Form.{Good, shape, form, word, pack, is_bot, is_imp}
-use Rattle.theory.specs.Meter.{Formulas}
-use Rattle.theory.specs.Refusal.{lack_number}
-use Rattle.theory.specs.Call as C
 use Rattle.theory.specs.Call.{Claim, given_words, given_book, refusal, called}
 use Rattle.theory.specs.Owed.{Passes}
 use Rattle.theory.specs.Status as S
@@ -19,23 +16,16 @@ use Rattle.theory.specs.Status.{open_form, settled, refuted, Inquiry, first_clai
 use Rattle.theory.proofs.Passing.{passes}
 use Rattle.theory.proofs.CallClaims.{given_kept, records_zero, second_room, second_no_room, second_passes}
 use Rattle.context.specs.Area.{Rec, zeroed}
-use Rattle.call.specs.declared.Outcome.{Outcome}
-use Rattle.call.specs.Outcomes.{outcome_of}
+use Rattle.std.specs.Prelude.{Ok, Err}
+use Rattle.call.specs.declared.NoAnswer.TheVariants.{Short}
+use Rattle.call.specs.Outcomes.{Outcome, lack_of, outcome_of}
 use Rattle.call.specs.Lent.{claim_of}
 use Rattle.call.specs.Whole.{Called}
-use Rattle.status.specs.declared.Status.{Status}
-use Rattle.status.specs.declared.Status.TheVariants.{Unsolvable, Short}
-use Rattle.status.specs.Answers.{status_of, refuted_as}
+use Rattle.meter.specs.declared.Limit.TheVariants as OfLimit
+use Rattle.status.specs.declared.Status.TheVariants.{Unsolvable}
+use Rattle.status.specs.Answers.{Answer, status_of}
 use Rattle.status.specs.Whole.{inquiry_of, failed_status}
 use Rattle.status.proofs.Lists.{two_stored}
-
--- an outcome of the second search, turned into a status by the code and by theory
-same_status : (o : C.Outcome) → refuted_as (outcome_of o) ≡ status_of (refuted o)
-unfolding refuted_as outcome_of status_of refuted
-same_status (C.proved r n u f t) = refl
-same_status (C.unprovable n u f t) = refl
-same_status (C.shortage l n) = refl
-same_status (C.refused f i) = refl
 
 module _ (f : List ℕ) (count goal : ℕ) (t : List ℕ) (w : List Rec) (steps : ℕ) where
   abbrev x : Inquiry
@@ -66,22 +56,22 @@ module _ (f : List ℕ) (count goal : ℕ) (t : List ℕ) (w : List Rec) (steps 
     few_words = omega (arith, p.given, p.few_words)
 
     -- open, the second search tells; closed, it is settled
-    pub goal_open : true ≡ open_form (form (map shape (take count f)) goal) → {records : ℕ} {s : Status} → records ≡ length w →
-        s ≡ status_of (refuted (second_outcome (inquiry_of f count goal t records steps))) → s ≡ status_of (failed_status x)
+    pub goal_open : true ≡ open_form (form (map shape (take count f)) goal) → {records : ℕ} (s : Answer) → records ≡ length w →
+        status_of s ≡ refuted (second_outcome (inquiry_of f count goal t records steps)) → status_of s ≡ failed_status x
     unfolding failed_status goal_is_open first_claim given_book given_words
-    goal_open o k q =
-        q ∙ ap (λ (n : ℕ). status_of (refuted (second_outcome (inquiry_of f count goal t n steps)))) k
-        ∙ ap (λ (b : Bool). status_of (elim b as (λ v. S.Status) [ false ↦ settled S.Unsolvable | true ↦ refuted (second_outcome x) ])) o
+    goal_open o s k q =
+        q ∙ ap (λ (n : ℕ). refuted (second_outcome (inquiry_of f count goal t n steps))) k
+        ∙ ap (λ (b : Bool). elim b as (λ v. S.Status) [ false ↦ settled S.Unsolvable | true ↦ refuted (second_outcome x) ]) o
 
-    pub goal_closed : false ≡ open_form (form (map shape (take count f)) goal) → Unsolvable ≡ status_of (failed_status x)
+    pub goal_closed : false ≡ open_form (form (map shape (take count f)) goal) → status_of (Ok Unsolvable) ≡ failed_status x
     unfolding failed_status goal_is_open first_claim given_book given_words status_of
     goal_closed o =
-        ap (λ (b : Bool). status_of (elim b as (λ v. S.Status) [ false ↦ settled S.Unsolvable | true ↦ refuted (second_outcome x) ])) o
+        ap (λ (b : Bool). elim b as (λ v. S.Status) [ false ↦ settled S.Unsolvable | true ↦ refuted (second_outcome x) ]) o
 
     -- no room for the two words: 8, and no step was entered
-    pub no_room : length f < count + 2 → Short (lack_number Formulas) 0 ≡ status_of (refuted (second_outcome x))
-    unfolding refuted status_of
-    no_room h = ap (λ (o : C.Outcome). status_of (refuted o)) (sym (second_no_room x h))
+    pub no_room : length f < count + 2 → status_of (Err (Short OfLimit.Formulas 0)) ≡ refuted (second_outcome x)
+    unfolding refuted status_of lack_of
+    no_room h = ap refuted (sym (second_no_room x h))
 
     module _ (room : count + 2 ≤ length f) where
       -- the code's two words after the given ones are the second claim's
@@ -109,10 +99,8 @@ module _ (f : List ℕ) (count goal : ℕ) (t : List ℕ) (w : List Rec) (steps 
           take_at (take count f) (word is_bot ∷ word (is_imp goal count) ∷ drop (count + 2) f) count counted
 
       module _ {o : Outcome} {f1 t1 : List ℕ} {w1 : List Rec} (c : Called (second_claim x) w o f1 t1 w1) where
-        refuted_so : refuted_as o ≡ status_of (refuted (second_outcome x))
-        refuted_so =
-            ap refuted_as c.outcome ∙ same_status (called (second_claim x)).outcome
-            ∙ ap (λ (o : C.Outcome). status_of (refuted o)) (sym (second_room x room))
+        refuted_so : refuted (outcome_of o) ≡ refuted (second_outcome x)
+        refuted_so = ap refuted (c.outcome ∙ sym (second_room x room))
 
         front_kept : take count f1 ≡ take count f
         unfolding second_claim given_words
@@ -127,7 +115,7 @@ module _ (f : List ℕ) (count goal : ℕ) (t : List ℕ) (w : List Rec) (steps 
 
       pub second_answers : {o : Outcome} {f1 f2 t2 : List ℕ} {w2 : List Rec} → f1 ≡ (second_claim x).words →
           Called (claim_of f1 (count + 2) [] [] (count + 1) t (length w) steps) w o f2 t2 w2 →
-          (refuted_as o ≡ status_of (refuted (second_outcome x))) × (take count f2 ≡ take count f) × (w2 ≡ replicate (length w) zeroed)
+          (refuted (outcome_of o) ≡ refuted (second_outcome x)) × (take count f2 ≡ take count f) × (w2 ≡ replicate (length w) zeroed)
       second_answers {o} {f1} {f2} {t2} {w2} q c =
           let d : Called (second_claim x) w o f2 t2 w2 = subst (λ (y : Claim). Called y w o f2 t2 w2) (is_second q) c in
           (refuted_so d, front_kept d, zero_records d)

@@ -9,19 +9,22 @@ ghost use Rattle.theory.specs.Call.{refusal};
 ghost use Rattle.theory.specs.Status.{open_form, refuted, first_claim, second_outcome};
 ghost use Rattle.context.specs.Area.{zeroed};
 ghost use Rattle.call.specs.Lent.{claim_of};
+ghost use Rattle.call.specs.Outcomes.{outcome_of};
 ghost use Rattle.call.specs.Whole.{Called};
 ghost use Rattle.status.specs.Marks.{open_by_itself, parts_marked, some_open};
-ghost use Rattle.status.specs.Answers.{status_of, refuted_as};
+ghost use Rattle.status.specs.Answers.{status_of};
 ghost use Rattle.status.specs.Whole.{inquiry_of, failed_status, Answered};
 
-use call::Outcome;
+use call::{NoAnswer, Outcome, Verdict};
 use context::Record;
+use formula::Kind;
+use meter::Limit;
 
 // Symbols from here up carry free parameters.
 const FIRST_FREE: usize = 8192;
 
-// What comes back: a verdict, a shortage of either search with that search's steps, or a refusal with its place.
-#[derive(Clone, Copy)]
+// What the searches of a goal and of its negation tell. No answer is a shortage of either search with that search's steps, or a refusal.
+#[derive(Clone, Copy, PartialEq, Eq)]
 pub enum Status {
     // the goal has a proof
     Solvable,
@@ -29,36 +32,27 @@ pub enum Status {
     Unsolvable,
     // it is open, and neither it nor its negation has one
     Unknown,
-    // a limit would be passed in the first search, or in the second
-    Short { number: usize, steps: usize },
-    // the input breaks what is asked of it
-    Refused { number: usize, place: usize },
 }
 
 // Whether a word is a ForAll, an Exists or an atom of a free symbol.
 fn open_leaf(word: u32) -> bool
     ensures { result ≡ open_by_itself (shape word) }
 {
-    let kind = formula::kind_of(word);
-    if kind == formula::ATOM {
-        return FIRST_FREE <= formula::left_of(word);
+    match formula::kind_of(word) {
+        Kind::True | Kind::False | Kind::And | Kind::Or | Kind::Impl => false,
+        Kind::Atom => FIRST_FREE <= formula::left_of(word),
+        Kind::ForAll | Kind::Exists | Kind::Unknown(_) => true,
     }
-    formula::IMPL < kind
 }
 
 // Both parts of formula i are marked, if it has parts.
 fn mark_parts(words: &[u32], work: &mut [Record], i: usize)
     ensures { work.new ≡ parts_marked (shape (get_or words.now i 0)) work.old }
 {
-    let kind = formula::kind(words, i);
-    if kind < formula::AND {
-        return;
+    if let Kind::And | Kind::Or | Kind::Impl = formula::kind_at(words, i) {
+        context::put(work, formula::left_at(words, i), 1, 0);
+        context::put(work, formula::right_at(words, i), 1, 0);
     }
-    if formula::IMPL < kind {
-        return;
-    }
-    context::put(work, formula::left(words, i), 1, 0);
-    context::put(work, formula::right(words, i), 1, 0);
 }
 
 // Whether one of the marked formulas below `from` is open. It marks their parts on its way down, so that a formula is looked at once,
@@ -68,9 +62,7 @@ fn marked_open(words: &[u32], work: &mut [Record], count: usize, from: usize) ->
     requires good { Good (map shape (take count words.now)) }
     ensures { result ≡ some_open (map shape (take count words.now)) work.old from }
 {
-    let mut i = from;
-    while 0 < i {
-        i -= 1;
+    for i in (0..from).rev() {
         if context::formula_at(work, i) != 0 {
             if open_leaf(formula::word(words, i)) {
                 return true;
@@ -95,26 +87,15 @@ fn open_goal(words: &[u32], work: &mut [Record], count: usize, goal: usize) -> b
     answer
 }
 
-// The status by the second search: a proof refutes the goal, no proof leaves it unknown, and a shortage is told.
-fn refuted(second: Outcome) -> Status
-    ensures { result ≡ refuted_as second }
+// The status by the second search: a proof refutes the goal, no proof leaves it unknown, and a shortage is told with this search's steps,
+// not the sum of both.
+#[tactic(auto, unfolding(crate::specs::Answers::status_of, call::specs::Outcomes::outcome_of, theory::specs::Status::refuted))]
+fn refuted(second: Outcome) -> Result<Status, NoAnswer>
+    ensures { status_of result ≡ refuted (outcome_of second) }
 {
-    match second {
-        Outcome::Proved {
-            root: _,
-            steps: _,
-            indices: _,
-            formulas: _,
-            terms: _,
-        } => Status::Unsolvable,
-        Outcome::Unprovable {
-            steps: _,
-            indices: _,
-            formulas: _,
-            terms: _,
-        } => Status::Unknown,
-        Outcome::Short { number, steps } => Status::Short { number, steps }, // this search's steps, not the sum of both
-        Outcome::Refused { number, place } => Status::Refused { number, place },
+    match second? {
+        Verdict::Proved { .. } => Ok(Status::Unsolvable),
+        Verdict::Unprovable { .. } => Ok(Status::Unknown),
     }
 }
 
@@ -152,22 +133,22 @@ fn search_negation(
     terms: &mut [u16],
     work: &mut [Record],
     steps: usize,
-) -> Status
+) -> Result<Status, NoAnswer>
     requires passed { refusal (first_claim (inquiry_of words.old count goal terms.old (length work.old) steps)) ≡ none }
     requires work { work.old ≡ replicate (length work.old) zeroed }
-    ensures result { result ≡ status_of (refuted (second_outcome
-        (inquiry_of words.old count goal terms.old (length work.old) steps))) }
+    ensures result { status_of result ≡ refuted (second_outcome
+        (inquiry_of words.old count goal terms.old (length work.old) steps)) }
     ensures kept { take count words.new ≡ take count words.old }
     ensures work { work.new ≡ replicate (length work.old) zeroed }
 {
     if words.len() < count + 2 {
-        return Status::Short {
-            number: meter::FORMULAS,
+        return Err(NoAnswer::Short {
+            limit: Limit::Formulas,
             steps: 0,
-        };
+        });
     }
-    formula::store(words, count, formula::pack(formula::FALSE, 0, 0));
-    formula::store(words, count + 1, formula::pack(formula::IMPL, goal, count));
+    formula::store(words, count, formula::pack(Kind::False, 0, 0));
+    formula::store(words, count + 1, formula::pack(Kind::Impl, goal, count));
     refuted(search_goal(words, count + 2, count + 1, terms, work, steps))
 }
 
@@ -179,18 +160,18 @@ fn unproved(
     terms: &mut [u16],
     work: &mut [Record],
     steps: usize,
-) -> Status
+) -> Result<Status, NoAnswer>
     requires passed { refusal (first_claim (inquiry_of words.old count goal terms.old (length work.old) steps)) ≡ none }
     requires work { work.old ≡ replicate (length work.old) zeroed }
-    ensures result { result ≡ status_of (failed_status
-        (inquiry_of words.old count goal terms.old (length work.old) steps)) }
+    ensures result { status_of result ≡ failed_status
+        (inquiry_of words.old count goal terms.old (length work.old) steps) }
     ensures kept { take count words.new ≡ take count words.old }
     ensures work { work.new ≡ replicate (length work.old) zeroed }
 {
     if open_goal(words, work, count, goal) {
         return search_negation(words, count, goal, terms, work, steps);
     }
-    Status::Unsolvable
+    Ok(Status::Unsolvable)
 }
 
 // The status of the goal.
@@ -201,32 +182,14 @@ pub fn solvable_status(
     terms: &mut [u16],
     work: &mut [Record],
     steps: usize,
-) -> Status
+) -> Result<Status, NoAnswer>
     ensures { Answered (inquiry_of words.old count goal terms.old (length work.old) steps)
         work.old result words.new terms.new work.new }
 {
-    match search_goal(words, count, goal, terms, work, steps) {
-        Outcome::Proved {
-            root: _,
-            steps: _,
-            indices: _,
-            formulas: _,
-            terms: _,
-        } => {
-            clean(words, terms, count);
-            Status::Solvable
-        }
-        Outcome::Unprovable {
-            steps: _,
-            indices: _,
-            formulas: _,
-            terms: _,
-        } => {
-            let status = unproved(words, count, goal, terms, work, steps);
-            clean(words, terms, count);
-            status
-        }
-        Outcome::Short { number, steps } => Status::Short { number, steps },
-        Outcome::Refused { number, place } => Status::Refused { number, place },
-    }
+    let status = match search_goal(words, count, goal, terms, work, steps)? {
+        Verdict::Proved { .. } => Ok(Status::Solvable),
+        Verdict::Unprovable { .. } => unproved(words, count, goal, terms, work, steps),
+    };
+    clean(words, terms, count);
+    status
 }

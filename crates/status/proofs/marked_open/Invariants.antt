@@ -4,6 +4,3 @@ use Rattle.status.proofs.marked_open.Given as goal
 
 abbrev pub invariant-loop-i : goal.invariant-loop-i
 invariant-loop-i l = Going l.words l.count l.from l.initial.work l.work l.i
-
-abbrev pub decreases-loop-i : goal.decreases-loop-i
-decreases-loop-i l = l.i

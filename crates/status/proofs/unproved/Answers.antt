@@ -35,7 +35,7 @@ returns-then-open_goal c =
     let long = ap length c.open_goal.ensures.work ∙ length-replicate (length a.work.now) zeroed in
     let e = c.search_negation.ensures in record {
       result = goal_open a.words.now a.count a.goal a.terms.now a.work.now a.steps c.requires.passed
-          (sym c.if-open_goal.true ∙ c.open_goal.ensures.result) long e.result;
+          (sym c.if-open_goal.true ∙ c.open_goal.ensures.result) _ long e.result;
       kept = e.kept;
       work = e.work ∙ ap
           (λ (n : ℕ). replicate n zeroed) long;
