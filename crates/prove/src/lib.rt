@@ -34,7 +34,8 @@ struct Setting<'a> {
     ghost few: { length (names_in names.now) ≤ 64 },
 }
 
-// Right: True, And and Impl; all else is left to left.
+// Right: True, And and Impl; all else is left to left. And and Impl are not inlined here, since right's frame stands on the stack at every
+// level, whatever its goal.
 #[cycle(judgement)]
 fn right(
     words: &mut [u32],
@@ -63,6 +64,7 @@ fn right(
 
 // Both premises of a conjunction, and then Pair.
 #[cycle(judgement)]
+#[inline(never)]
 fn right_and(
     words: &mut [u32],
     terms: &mut [u16],
@@ -128,6 +130,7 @@ fn premise(
 
 // The body of an implication, and then Function.
 #[cycle(judgement)]
+#[inline(never)]
 fn right_impl(
     words: &mut [u32],
     terms: &mut [u16],
