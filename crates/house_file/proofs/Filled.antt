@@ -8,6 +8,7 @@ use lib.Seq.{take-append_seam}
 use Rattle.theory.specs.NameText.{padded}
 use Rattle.theory.specs.File as F
 use Rattle.call.specs.Lent as L
+use Rattle.house_sections.specs.declared.Sections.{Sections}
 use Rattle.house_sections.specs.Held.{numbers_from, indices_from, laid_over, entry_bytes, file_in}
 
 -- as many words and indices as were asked for
@@ -37,21 +38,21 @@ pub laid_front : (n : ℕ) (xs before after : List ℕ) → after ≡ laid_over 
 unfolding laid_over
 laid_front n xs before after e l = ap₂ take l e ∙ take-append_seam xs (drop (length xs) before)
 
-module _ (n m goal : ℕ) (bs : List ℕ) where
+module _ (s : Sections) (bs : List ℕ) where
   abbrev file : F.File
-  file = file_in n m goal bs
+  file = file_in s bs
 
   -- the claim in the lent arrays
   pub claim_is : (f assumed names t zeros : List ℕ) → f ≡ laid_over file.words zeros → zeros ≡ replicate 4096 0 →
       assumed ≡ file.indices → names ≡ file.text → t ≡ replicate 24576 0 →
-      L.claim_of f n assumed names goal t 16384 1000000 ≡ F.claim_of file goal
+      L.claim_of f s.formulas assumed names s.goal t 16384 1000000 ≡ F.claim_of file s.goal
   unfolding F.claim_of
   claim_is f assumed names t zeros ef ez ea en et =
-      ap₂ (λ (w : List ℕ) (k : ℕ). L.claim_of w k assumed names goal t 16384 1000000)
-      (ef ∙ laid_padded 4096 file.words zeros ez) (sym (words_many 4 n (drop 2 bs)))
-      ∙ ap₂ (λ (a s : List ℕ). L.claim_of (padded 4096 file.words) (length file.words) a s goal t 16384 1000000) ea en
+      ap₂ (λ (w : List ℕ) (k : ℕ). L.claim_of w k assumed names s.goal t 16384 1000000)
+      (ef ∙ laid_padded 4096 file.words zeros ez) (sym (words_many 4 s.formulas (drop 2 bs)))
+      ∙ ap₂ (λ (a v : List ℕ). L.claim_of (padded 4096 file.words) (length file.words) a v s.goal t 16384 1000000) ea en
       ∙ ap (λ (r : List ℕ).
-      L.claim_of (padded 4096 file.words) (length file.words) file.indices file.text goal r 16384 1000000) et
+      L.claim_of (padded 4096 file.words) (length file.words) file.indices file.text s.goal r 16384 1000000) et
 
 -- what was laid is inside, and is the front
 module _ (n : ℕ) (xs before after : List ℕ) (e : after ≡ laid_over xs before) (l : n ≡ length xs) where

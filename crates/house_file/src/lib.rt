@@ -6,13 +6,14 @@ ghost use Rattle.theory.specs.NameText.{padded};
 ghost use Rattle.theory.specs.Writer.{written};
 ghost use Rattle.theory.specs.File.{decoded, proved_lines, goal_lines, printed};
 ghost use Rattle.call.specs.Lent.{claim_of};
-ghost use Rattle.house_text.specs.Drafted.{draft};
+ghost use Rattle.house_text.specs.Drafted.{draft_of};
 ghost use Rattle.house_lines.specs.Lines.{Printable};
 ghost use Rattle.house_sections.specs.Held.{file_in, Seen};
 ghost use Rattle.house_file.specs.Output.{Answers, lines_for, Printables};
 
-use call::Outcome;
+use call::{Outcome, Verdict};
 use house_sections::Sections;
+use house_text::Draft;
 
 // "The program lends 4,096 words, 4,096 nodes, 1,000,000 steps, 32,768 text bytes".
 const WORDS: usize = 4096;
@@ -31,6 +32,9 @@ const NAME_BYTES: usize = 32768;
 // Bytes that hold the lines of every answer: those of a proved goal with the longest text are the most.
 pub const OUTPUT_BYTES: usize = 32835;
 
+// Records of the work area.
+const RECORDS: usize = 16384;
+
 // The number of document 01's table for a file that is no house file.
 const BAD_FILE: usize = 14;
 
@@ -46,55 +50,32 @@ fn search_claim(
     ensures { Answers (claim_of words.old count assumed.now names.now goal terms.old 16384 1000000) result
         words.new terms.new }
 {
-    let mut work = context::filled(0);
+    let mut work = context::filled::<RECORDS>(0);
     prove::prove(words, count, assumed, names, goal, terms, &mut work, STEPS)
 }
 
 // The lines of a proved goal: its counts and the text of its term, or the writer's refusal.
-fn proved_lines(
-    words: &[u32],
-    formulas: usize,
-    assumptions: usize,
-    names: &[u8],
-    terms: &[u16],
-    nodes: usize,
-    root: usize,
-    steps: usize,
-    indices: usize,
-    out: &mut [u8],
-) -> usize
-    requires printable { Printable steps × Printable indices × Printable formulas × Printable nodes }
-    requires room { length (proved_lines steps indices formulas nodes
-        (written (draft words.now formulas assumptions names.now terms.now nodes root (replicate 32768 0)))) ≤ length out.old }
-    ensures out { out.new ≡ padded (length out.old) (proved_lines steps indices formulas nodes
-        (written (draft words.now formulas assumptions names.now terms.now nodes root
-        (replicate 32768 0)))) }
-    ensures length { result ≡ length (proved_lines steps indices formulas nodes
-        (written (draft words.now formulas assumptions names.now terms.now nodes root
-        (replicate 32768 0)))) }
+fn proved_lines(draft: Draft, steps: usize, indices: usize, out: &mut [u8]) -> usize
+    requires printable { Printable steps × Printable indices × Printable draft.count × Printable draft.nodes }
+    requires room { length (proved_lines steps indices draft.count draft.nodes
+        (written (draft_of draft (replicate 32768 0)))) ≤ length out.old }
+    ensures out { out.new ≡ padded (length out.old) (proved_lines steps indices draft.entry.count draft.entry.nodes
+        (written (draft_of draft.entry (replicate 32768 0)))) }
+    ensures length { result ≡ length (proved_lines steps indices draft.entry.count draft.entry.nodes
+        (written (draft_of draft.entry (replicate 32768 0)))) }
 {
     let mut text = [0u8; TEXT_BYTES];
-    let mut number = 0;
-    let mut place = 0;
-    let size = house_text::write_text(
-        words,
-        formulas,
-        assumptions,
-        names,
-        terms,
-        nodes,
-        root,
-        &mut text,
-        &mut number,
-        &mut place,
-    );
-    if number == 0 {
-        return house_lines::proved(out, steps, indices, formulas, nodes, &text[..size]);
+    match house_text::write_text(draft, &mut text) {
+        Ok(size) => {
+            let text = &text[..size];
+            house_lines::proved(out, steps, indices, draft.count, draft.nodes, text)
+        }
+        Err(refusal) => house_lines::refused(out, refusal.number()),
     }
-    house_lines::refused(out, number)
 }
 
 // The lines of one answer of the search.
+#[tactic(auto, unfolding(crate::specs::Output::lines_for))]
 fn answer_lines(
     outcome: Outcome,
     words: &[u32],
@@ -110,83 +91,35 @@ fn answer_lines(
     ensures length { result ≡ length (lines_for outcome words.now terms.now assumptions names.now) }
 {
     match outcome {
-        Outcome::Proved {
-            root,
-            steps,
-            indices,
-            formulas,
-            terms: nodes,
-        } => proved_lines(
-            words,
-            formulas,
-            assumptions,
-            names,
-            terms,
-            nodes,
-            root,
-            steps,
-            indices,
-            out,
-        ),
-        Outcome::Unprovable {
-            steps,
-            indices: _,
-            formulas: _,
-            terms: _,
-        } => house_lines::unprovable(out, steps),
-        Outcome::Short { number, steps: _ } => house_lines::refused(out, number),
-        Outcome::Refused { number, place: _ } => house_lines::refused(out, number),
+        Ok(
+            Verdict::Proved {
+                root,
+                steps,
+                indices,
+                formulas,
+                terms: nodes,
+            },
+        ) => {
+            let draft = Draft {
+                words,
+                count: formulas,
+                assumptions,
+                names,
+                terms,
+                nodes,
+                root,
+            };
+            proved_lines(draft, steps, indices, out)
+        }
+        Ok(Verdict::Unprovable { steps, .. }) => house_lines::unprovable(out, steps),
+        Err(missing) => house_lines::refused(out, missing.number()),
     }
 }
 
-// The lines of a tested file's goal, over the arrays that the program lends.
-fn goal_lines(
-    file: &[u8],
-    formulas: usize,
-    assumptions: usize,
-    goal: usize,
-    words: &mut [u32],
-    indices: &mut [u16],
-    names: &mut [u8],
-    terms: &mut [u16],
-    out: &mut [u8],
-) -> usize
-    requires tested { decoded file.now ≡ some (file_in formulas assumptions goal file.now) }
-    requires seen { Seen formulas assumptions file.now }
-    requires words { words.old ≡ replicate 4096 0 }
-    requires indices { length indices.old ≡ 64 }
-    requires names { length names.old ≡ 32768 }
-    requires terms { terms.old ≡ replicate 24576 0 }
-    requires room { 32835 ≤ length out.old }
-    ensures out { out.new ≡
-        padded (length out.old) (goal_lines (file_in formulas assumptions goal file.now) goal) }
-    ensures length { result ≡ length (goal_lines (file_in formulas assumptions goal file.now) goal) }
-{
-    let first = 4 + 4 * formulas;
-    house_sections::fill_words(file, formulas, words);
-    house_sections::fill_indices(file, first, assumptions, indices);
-    let size = house_sections::fill_names(file, first, assumptions, names);
-    let outcome = search_claim(
-        words,
-        formulas,
-        &indices[..assumptions],
-        &names[..size],
-        goal,
-        terms,
-    );
-    answer_lines(outcome, words, terms, assumptions, &names[..size], out)
-}
-
-// The output for a file that passed the test, over the arrays that the program lends.
-fn held_output(
-    file: &[u8],
-    formulas: usize,
-    assumptions: usize,
-    goal: usize,
-    out: &mut [u8],
-) -> usize
-    requires tested { decoded file.now ≡ some (file_in formulas assumptions goal file.now) }
-    requires seen { Seen formulas assumptions file.now }
+// The output for a file that passed the test: its sections are copied, its goal is searched for, and the lines of the answer are laid.
+fn held_output(file: &[u8], sections: Sections, out: &mut [u8]) -> usize
+    requires tested { decoded file.now ≡ some (file_in sections file.now) }
+    requires seen { Seen sections file.now }
     requires room { 32835 ≤ length out.old }
     ensures out { out.new ≡ padded (length out.old) (printed file.now) }
     ensures length { result ≡ length (printed file.now) }
@@ -195,17 +128,20 @@ fn held_output(
     let mut indices = [0u16; ASSUMPTIONS];
     let mut names = [0u8; NAME_BYTES];
     let mut terms = [0u16; NODES * proof_term::WIDTH];
-    goal_lines(
-        file,
-        formulas,
-        assumptions,
-        goal,
+    let first = 4 + 4 * sections.formulas;
+    house_sections::fill_words(file, sections.formulas, &mut words);
+    house_sections::fill_indices(file, first, sections.assumptions, &mut indices);
+    let size = house_sections::fill_names(file, first, sections.assumptions, &mut names);
+    let names = &names[..size];
+    let outcome = search_claim(
         &mut words,
-        &mut indices,
-        &mut names,
+        sections.formulas,
+        &indices[..sections.assumptions],
+        names,
+        sections.goal,
         &mut terms,
-        out,
-    )
+    );
+    answer_lines(outcome, &words, &terms, sections.assumptions, names, out)
 }
 
 // What the program prints for a file's bytes: how many bytes it is, at the front of an array that has room for every answer.
@@ -214,11 +150,7 @@ pub fn output(file: &[u8], out: &mut [u8; OUTPUT_BYTES]) -> usize
     ensures length { result ≡ length (printed file.now) }
 {
     match house_sections::test_file(file) {
-        Sections::BadFile => house_lines::refused(out, BAD_FILE),
-        Sections::Held {
-            formulas,
-            assumptions,
-            goal,
-        } => held_output(file, formulas, assumptions, goal, out),
+        Some(sections) => held_output(file, sections, out),
+        None => house_lines::refused(out, BAD_FILE),
     }
 }

@@ -9,64 +9,41 @@ use Rattle.house_file.proofs.Lines.{size_inside, lines_written, lines_refused, r
 use Rattle.house_file.proofs.proved_lines.Goals as goal
 
 pub slice_bounds-text-end : goal.slice_bounds-text-end
-slice_bounds-text-end c =
-    size_inside _ c.write_text-size.result c.write_text-size.new.number c.write_text-size.new.buf
-    c.write_text-size.ensures.written
+slice_bounds-text-end c = size_inside _ c.in-Ok.ensures.written
 
-pub slice_bounds-proved-end : goal.slice_bounds-proved-end
-slice_bounds-proved-end c =
-    sym (length-take-le c.write_text-size.result c.write_text-size.new.buf
-    (size_inside _ c.write_text-size.result c.write_text-size.new.number c.write_text-size.new.buf
-    c.write_text-size.ensures.written))
+pub slice_bounds-text-end-in-Ok : goal.slice_bounds-text-end-in-Ok
+slice_bounds-text-end-in-Ok c =
+    sym (length-take-le c.in-Ok.size c.write_text.new.buf (size_inside _ c.in-Ok.ensures.written))
 
-pub proved-requires : goal.proved-requires
-proved-requires c =
+pub proved-requires-clause-room : goal.proved-requires-clause-room
+proved-requires-clause-room c =
     let args = c.args in
+    subst (λ (xs : List ℕ). length xs ≤ length args.out.now)
+    (lines_written _ args.steps args.indices args.draft.count args.draft.nodes c.in-Ok.ensures.written) c.requires.room
+
+pub returns-in-Ok : goal.returns-in-Ok
+returns-in-Ok c =
+    let args = c.args in
+    let lines = sym (lines_written _ args.steps args.indices args.draft.count args.draft.nodes c.in-Ok.ensures.written) in record {
+      out = c.proved.ensures.out ∙ ap (padded (length args.out.now)) lines;
+      length = c.proved.ensures.length ∙ ap length lines;
+    }
+
+pub refused-requires-clause-printable : goal.refused-requires-clause-printable
+refused-requires-clause-printable c = rw c.number.ensures (refused_small _ c.in-Err.refusal c.in-Err.ensures.written)
+
+pub refused-requires-clause-room : goal.refused-requires-clause-room
+refused-requires-clause-room c =
+    let args = c.args in
+    rw c.number.ensures (subst (λ (xs : List ℕ). length xs ≤ length args.out.now)
+    (lines_refused _ args.steps args.indices args.draft.count args.draft.nodes c.in-Err.refusal c.in-Err.ensures.written) c.requires.room)
+
+pub returns-in-Err : goal.returns-in-Err
+returns-in-Err c =
+    let args = c.args in
+    let refused = c.in-Err.ensures.written in
+    let lines = sym (lines_refused _ args.steps args.indices args.draft.count args.draft.nodes c.in-Err.refusal refused) in
     record {
-      printable = c.requires.printable;
-      room = subst (λ (xs : List ℕ). length xs ≤ length args.out.now)
-          (lines_written _ c.write_text-size.result c.write_text-size.new.number c.write_text-size.new.buf
-          c.write_text-size.ensures.written args.steps
-          args.indices args.formulas args.nodes
-          c.if-number-eq0.true) c.requires.room;
-    }
-
-pub returns-then-number-eq0 : goal.returns-then-number-eq0
-returns-then-number-eq0 c =
-    let args = c.args in
-    let proved = c.proved in
-    let lines = lines_written
-    _ c.write_text-size.result c.write_text-size.new.number c.write_text-size.new.buf
-    c.write_text-size.ensures.written args.steps
-    args.indices args.formulas args.nodes
-    c.if-number-eq0.true in record {
-      out = proved.ensures.out ∙ ap (padded (length args.out.now)) (sym lines);
-      length = proved.ensures.length ∙ ap length (sym lines);
-    }
-
-pub refused-requires : goal.refused-requires
-refused-requires c =
-    let args = c.args in
-    record {
-      printable = refused_small
-          _ c.write_text-size.result c.write_text-size.new.number c.write_text-size.new.buf
-          c.write_text-size.ensures.written;
-      room = subst (λ (xs : List ℕ). length xs ≤ length args.out.now)
-          (lines_refused _ c.write_text-size.result c.write_text-size.new.number c.write_text-size.new.buf
-          c.write_text-size.ensures.written args.steps
-          args.indices args.formulas args.nodes c.if-number-eq0.false)
-          c.requires.room;
-    }
-
-pub returns : goal.returns
-returns c =
-    let args = c.args in
-    let refused = c.refused in
-    let lines = lines_refused
-    _ c.write_text-size.result c.write_text-size.new.number c.write_text-size.new.buf
-    c.write_text-size.ensures.written args.steps
-    args.indices args.formulas args.nodes
-    c.if-number-eq0.false in record {
-      out = refused.ensures.out ∙ ap (padded (length args.out.now)) (sym lines);
-      length = refused.ensures.length ∙ ap length (sym lines);
+      out = c.refused.ensures.out ∙ rw c.number.ensures (ap (padded (length args.out.now)) lines);
+      length = c.refused.ensures.length ∙ rw c.number.ensures (ap length lines);
     }

@@ -4,7 +4,7 @@ use mathlib.Core.Path.{◌≡◌, ap, ◌∙◌, subst}
 use mathlib.Core.List.{List}
 use lib.ListN.{length, length-replicate}
 use Rattle.context.specs.Area.{Rec, zeroed}
-use Rattle.call.specs.declared.Outcome.{Outcome}
+use Rattle.call.specs.Outcomes.{Outcome}
 use Rattle.call.specs.Lent.{claim_of}
 use Rattle.call.specs.Whole.{Called}
 use Rattle.house_file.specs.Output.{Answers}
