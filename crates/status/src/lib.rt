@@ -1,6 +1,8 @@
 #![tactic(auto)]
 // The status of a formula (the Rust's `get_prop_solvable_status`): a search of the goal, and where that fails and the goal is open, a
 // search of its negation.
+// The lent slices stay separate parameters. A struct that holds them was tried for the search's rules, and the proof didn't close: after a
+// shared read of a `&mut` slice in a field nothing is known of its elements.
 ghost use Rattle.std.specs.Prelude.{◌≡◌, ◌+◌, ◌≤◌, ◌<◌, [], map, length, get_or, take, replicate};
 ghost use Rattle.std.proofs.Math.Option.{none};
 ghost use Rattle.theory.specs.Form.{shape, form, Good};
@@ -120,9 +122,7 @@ fn search_goal(
     ensures { Called (claim_of words.old count [] [] goal terms.old (length work.old) steps)
         work.old result words.new terms.new work.new }
 {
-    let assumed: [u16; 0] = [];
-    let names: [u8; 0] = [];
-    prove::prove(words, count, &assumed, &names, goal, terms, work, steps)
+    prove::prove(words, count, &[], &[], goal, terms, work, steps)
 }
 
 // False and goal→False are appended, and the second is searched for; no room for them is a shortage before any step.
