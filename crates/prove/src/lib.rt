@@ -343,29 +343,13 @@ fn attempt(
         (lent words.old terms.old work.old) state sequent i result
         (lent words.new terms.new work.new) }
 {
+    let limits = setting.limits;
     let x = identifier_generator::fresh(setting.names, state.indices);
     let y = identifier_generator::fresh(setting.names, x + 1);
-    let (s1, q1) = search_premises::first(
-        words,
-        terms,
-        work,
-        setting.limits,
-        state,
-        sequent,
-        i,
-        x,
-        y,
-    )?;
+    let (s1, q1) = search_premises::first(words, terms, work, limits, state, sequent, i, x, y)?;
     let one = right(words, terms, work, setting, s1, q1)?;
     let (s2, q2) = search_premises::second(
-        words,
-        terms,
-        work,
-        setting.limits,
-        one.state,
-        sequent,
-        i,
-        one.node,
+        words, terms, work, limits, one.state, sequent, i, one.node,
     )?;
     left(words, terms, work, setting, s2, q2)
 }
