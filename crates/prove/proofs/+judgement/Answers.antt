@@ -17,12 +17,12 @@ use Rattle.search_laws.proofs.Halves.{tries_else}
 use Rattle.search_laws.proofs.Ranging.{going_starts, going_skips, going_fails, ranges_found, ranges_short, ranges_end}
 use Rattle.search_left.proofs.LeftMakes.{first_near, second_near}
 use Rattle.search_premises.specs.Asked.{lacks, asks}
-use Rattle.search_premises.proofs.Makes.{tested, raises_short, copy_room, up_room}
+use Rattle.search_premises.proofs.Makes.{tested, raises_short, copy_room}
 use Rattle.search_premises.proofs.Asking.{made_for, found_back, raised_found, raised_failed, raised_rep, raised_by}
 use Rattle.search_premises.proofs.Asking.{raised_weighs, kind_back, rep_step, weigh_step}
 use Rattle.search_premises.proofs.Less.{and_left_less, and_right_less, or_left_less, or_right_less}
 use Rattle.search_premises.proofs.RightWays.{and_lost, and_lost_second, and_found, impl_lacks, impl_falls, impl_lost, impl_found}
-use Rattle.search_premises.proofs.LeftWays.{onward_refl, onward_trans, turn_goes, turn_ends, turn_misses, turn_parts, turn_tries}
+use Rattle.search_premises.proofs.LeftWays.{onward_trans, turn_goes, turn_ends, turn_misses, turn_parts, turn_tries}
 use Rattle.search_premises.proofs.LeftWays.{half_less, left_half, right_half, or_lost, or_lost_second, or_found}
 use Rattle.search_premises.proofs.SearchWays.{first_stops, first_found, first_fails, half_stops, half_found, half_fails}
 use Rattle.search_premises.proofs.SearchWays.{first_less, second_less}
@@ -35,20 +35,6 @@ use Rattle.prove.proofs.+judgement.Goals.{positions-then-nested+in-Err-Failed, p
 pub right-returns-then-setting-state : goal.right-returns-then-setting-state
 right-returns-then-setting-state t c =
     stop c.if-setting-state.true c.requires.represented.within
-
-pub right-counted-s-requires : goal.right-counted-s-requires
-right-counted-s-requires t c =
-    omega (arith, c.if-setting-state.false, c.requires.represented.rooms)
-
-pub right-close-requires : goal.right-close-requires
-right-close-requires t c = (
-  c.requires.represented.rooms.most_terms,
-  omega (
-    arith,
-    (rep_step c.requires.represented c.if-setting-state.false c.counted-s.ensures).within.in_formulas,
-    c.requires.represented.rooms.most_formulas,
-  ),
-)
 
 pub right-right_and-requires : goal.right-right_and-requires
 right-right_and-requires t c = (
@@ -134,10 +120,6 @@ pub premise-copy_up-requires : goal.premise-copy_up-requires
 premise-copy_up-requires t c =
     copy_room c.requires.represented (tested c.in_ok-charge.ensures)
 
-pub premise-up-requires : goal.premise-up-requires
-premise-up-requires t c =
-    omega (arith, up_room c.requires.represented (tested c.in_ok-charge.ensures))
-
 pub premise-right-requires : goal.premise-right-requires
 premise-right-requires t c = (
   omega (
@@ -172,12 +154,6 @@ pub right_impl-overflow_add-x : goal.right_impl-overflow_add-x
 right_impl-overflow_add-x t c =
     omega (arith, first_near c.requires.represented c.args.setting.now.names.now c.args.setting.now.few c.fresh-x.ensures)
 
-pub right_impl-close-requires : goal.right_impl-close-requires
-right_impl-close-requires t c = (
-  c.requires.represented.rooms.most_terms,
-  omega (arith, c.in_ok-one.ensures.kept.within.in_formulas, c.requires.represented.rooms.most_formulas),
-)
-
 pub right_impl-returns-in_err-s : goal.right_impl-returns-in_err-s
 right_impl-returns-in_err-s t c =
     rw (carried c.from_residual.ensures)
@@ -194,14 +170,6 @@ right_impl-returns t c =
     c.close.ensures
 
 -- left
-pub left-loop-s1-init : goal.left-loop-s1-init
-left-loop-s1-init t c =
-    (refl, refl, refl, onward_refl c.requires.represented)
-
-pub left-turn-requires : goal.left-turn-requires
-left-turn-requires t c =
-    record { represented = c.loop-s1.invariant.3.rep; few = c.args.setting.now.few }
-
 pub left-returns-in_err-s1 : goal.left-returns-in_err-s1
 left-returns-in_err-s1 t c =
     rw (carried c.from_residual.ensures) (c.loop-s1.invariant.3.carries _ _ (turn_misses c.in_err-s1.ensures))
@@ -241,10 +209,6 @@ left-returns-in-Try t c =
     c.loop-s1.invariant.3.carries _ _ ((turn_tries (rw c.in-Try.is at c.in_ok-s1.ensures)).carries _ _ c.search.ensures)
 
 -- its disjunction
-pub left_or-top-at-requires : goal.left_or-top-at-requires
-left_or-top-at-requires t c =
-    let r = c.requires.represented in (omega (arith, r.seats.level_in, r.rooms.most_levels), omega (arith, r.seats.fits))
-
 pub left_or-branch-words-requires : goal.left_or-branch-words-requires
 left_or-branch-words-requires t c = (
   omega (arith, c.decreases),
@@ -326,10 +290,6 @@ branch-returns t c =
     asks (c.in_ok-s.ensures _ c.requires.fresh) c.left.ensures
 
 -- search's rule 3
-pub search-positions-requires : goal.search-positions-requires
-search-positions-requires t c =
-    (omega (arith, c.decreases), (c.requires.represented, c.requires.empty))
-
 pub search-returns-in_default : goal.search-returns-in_default
 unfolding kind_named
 search-returns-in_default t c =
@@ -401,11 +361,6 @@ second_half-returns-in-Err-Short t c =
 pub positions-loop-i-init : goal.positions-loop-i-init
 positions-loop-i-init t c =
     (refl, refl, refl, going_starts c.requires.represented)
-
-pub positions-nested-requires : goal.positions-nested-requires
-positions-nested-requires t c =
-    let r = c.requires.represented in
-    (omega (arith, r.seats.level_in, r.rooms.most_levels), omega (arith, c.loop-i-test.true, r.seats.fits))
 
 pub positions-attempt-requires : goal.positions-attempt-requires
 positions-attempt-requires t c = (
