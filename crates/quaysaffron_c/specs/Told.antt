@@ -1,15 +1,20 @@
 -- What another language is told: the kind of an answer and its numbers in a lent array, the number of a refusal or a shortage as the
 -- result, and what the lent slices hold. Assumes nothing.
-use Rattle.std.specs.Prelude.{ℕ, ◌≡◌, List, [], ◌∷◌}
-use Rattle.std.proofs.Math.Option.{Option}
+use Rattle.std.specs.Prelude.{ℕ, ◌≡◌, List, [], ◌∷◌, Result, Ok, Err}
+use Rattle.std.specs.declared.option.Option as code
+use Rattle.std.specs.declared.option.Option.TheVariants.{None, Some}
+use Rattle.std.proofs.Math.Option.{Option, none, some}
 use Rattle.theory.specs.Refusal as R
 use Rattle.theory.specs.Call.{Claim, Numbers, Outcome, proved, unprovable, shortage, refused, numbers, records_after, called}
 use Rattle.theory.specs.Status as S
 use Rattle.theory.specs.Status.{Inquiry, Status, settled, ran_short, rejected, status_numbers, asked}
-use Rattle.refusal.specs.Table.{number_in, place_in}
+use Rattle.refusal.specs.declared.Refusal.{Refusal}
+use Rattle.refusal.specs.Table.{refusal_of, number_in, place_in}
 use Rattle.context.specs.Area.{Rec, zeroed}
-use Rattle.call.specs.declared.Outcome as CallOutcome
-use Rattle.call.specs.declared.Outcome.TheVariants as OfCall
+use Rattle.call.specs.declared.NoAnswer.{NoAnswer}
+use Rattle.call.specs.declared.NoAnswer.TheVariants as OfCall
+use Rattle.call.specs.declared.Verdict.TheVariants as OfSearch
+use Rattle.call.specs.Outcomes as CallOutcome
 use Rattle.status.specs.declared.Status as StatusAnswer
 use Rattle.status.specs.declared.Status.TheVariants as OfStatus
 use Rattle.status.specs.Whole.{records_left}
@@ -48,18 +53,20 @@ status_kind (ran_short l n) = Short
 status_kind (rejected f i) = Refused
 
 -- the kinds of the prover's and the status' own answers
-abbrev pub kind_of : CallOutcome.Outcome → Kind
-kind_of (OfCall.Proved r n u f t) = Proved
-kind_of (OfCall.Unprovable n u f t) = Unprovable
-kind_of (OfCall.Short k n) = Short
-kind_of (OfCall.Refused k i) = Refused
+abbrev pub failure_kind : NoAnswer → Kind
+failure_kind (OfCall.Short l n) = Short
+failure_kind (OfCall.Refused r) = Refused
 
-abbrev pub verdict_of : StatusAnswer.Status → Kind
-verdict_of OfStatus.Solvable = Solvable
-verdict_of OfStatus.Unsolvable = Unsolvable
-verdict_of OfStatus.Unknown = Unknown
-verdict_of (OfStatus.Short k n) = Short
-verdict_of (OfStatus.Refused k i) = Refused
+abbrev pub kind_of : CallOutcome.Outcome → Kind
+kind_of (Ok (OfSearch.Proved r n u f t)) = Proved
+kind_of (Ok (OfSearch.Unprovable n u f t)) = Unprovable
+kind_of (Err why) = failure_kind why
+
+abbrev pub verdict_of : Result StatusAnswer.Status NoAnswer → Kind
+verdict_of (Ok OfStatus.Solvable) = Solvable
+verdict_of (Ok OfStatus.Unsolvable) = Unsolvable
+verdict_of (Ok OfStatus.Unknown) = Unknown
+verdict_of (Err why) = failure_kind why
 
 -- a kind, and the numbers that come with it, as another language finds them in an array
 abbrev pub in_order : Kind → Numbers → List ℕ
@@ -89,6 +96,11 @@ pub record Settled (x : Inquiry) (w : List Rec) (k : ℕ) (a f t : List ℕ) (w1
   pub words : f ≡ (asked x).words
   pub terms : t ≡ (asked x).terms
   pub records : w1 ≡ records_left (asked x) w
+
+-- a refusal of the tests, if there is one
+abbrev pub refused_in : code.Option Refusal → Option R.Refused
+refused_in None = none
+refused_in (Some r) = some (refusal_of r)
 
 -- a test refuses with this number and at this place, or passes with 0 and 0
 pub record Tests (r : Option R.Refused) (number place : ℕ) : Type 0 where

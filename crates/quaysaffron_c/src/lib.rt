@@ -1,26 +1,26 @@
 #![tactic(auto)]
 // The public calls for other languages to link: C's calling convention, a slice as a pointer and a length, the answer as numbers.
-ghost use Rattle.std.specs.Prelude.{◌≡◌, length, take};
+ghost use Rattle.std.specs.Prelude.{◌≡◌, length, take, Err};
 ghost use Rattle.theory.specs.Form.{bad_word};
 ghost use Rattle.theory.specs.NameText.{bad_name, padded, name_alone};
 ghost use Rattle.theory.specs.Refusal.{BadFormula, BadNames, fault_at};
 ghost use Rattle.theory.specs.Writer.{written};
 ghost use Rattle.theory.specs.File.{printed};
 ghost use Rattle.identifier_generator.specs.Handed.{Hands};
-ghost use Rattle.refusal.specs.Table.{refused_by};
 ghost use Rattle.call.specs.Lent.{claim_of};
 ghost use Rattle.status.specs.Whole.{inquiry_of};
 ghost use Rattle.house_text.specs.Drafted.{draft};
 ghost use Rattle.call.specs.Outcomes as Outcomes;
 ghost use Rattle.status.specs.Answers as Answers;
-ghost use Rattle.quaysaffron_c.specs.Told.{kind_of, verdict_of, in_order, Searched, Settled, Tests};
+ghost use Rattle.quaysaffron_c.specs.Told.{kind_of, verdict_of, in_order, refused_in, Searched, Settled, Tests};
 
-use call::Outcome;
+use call::{NoAnswer, Outcome, Verdict};
 use context::Record;
-use refusal::{Place, Tested};
+use house_text::Draft;
+use refusal::Refusal;
 use status::Status;
 
-// The kinds of answers.
+// The kinds of answers; numbers, since the C interface needs them.
 const PROVED: usize = 1;
 
 const UNPROVABLE: usize = 2;
@@ -38,77 +38,67 @@ const UNKNOWN: usize = 7;
 // An answer: its kind, and document 01's seven numbers in their order (number, place, root, steps, indices, formulas, terms).
 const ANSWER: usize = 8;
 
-// The outcome of a search as an answer; the number of the refusal or shortage, or 0.
-fn tell_outcome(outcome: Outcome, answer: &mut [usize; ANSWER]) -> usize
-    ensures number { result ≡ (Outcomes.numbers_of outcome).number }
-    ensures answer { answer.new ≡ in_order (kind_of outcome) (Outcomes.numbers_of outcome) }
+// Where the number of a refusal or a shortage stands in it.
+const NUMBER: usize = 1;
+
+// Why there is no verdict, as an answer.
+#[tactic(auto, unfolding(call::specs::Outcomes::numbers_of))]
+fn no_verdict(why: NoAnswer) -> [usize; ANSWER]
+    ensures { result ≡ in_order (kind_of (Err why)) (Outcomes.numbers_of (Err why)) }
 {
-    match outcome {
-        Outcome::Proved {
+    let kind = match why {
+        NoAnswer::Short { .. } => SHORT,
+        NoAnswer::Refused(_) => REFUSED,
+    };
+    [kind, why.number(), why.place(), 0, why.steps(), 0, 0, 0]
+}
+
+// The outcome of a search as an answer.
+#[tactic(auto, unfolding(call::specs::Outcomes::numbers_of))]
+fn outcome_answer(outcome: Outcome) -> [usize; ANSWER]
+    ensures { result ≡ in_order (kind_of outcome) (Outcomes.numbers_of outcome) }
+{
+    let verdict = match outcome {
+        Ok(verdict) => verdict,
+        Err(why) => return no_verdict(why),
+    };
+    match verdict {
+        Verdict::Proved {
             root,
             steps,
             indices,
             formulas,
             terms,
-        } => {
-            *answer = [PROVED, 0, 0, root, steps, indices, formulas, terms];
-            0
-        }
-        Outcome::Unprovable {
+        } => [PROVED, 0, 0, root, steps, indices, formulas, terms],
+        Verdict::Unprovable {
             steps,
             indices,
             formulas,
             terms,
-        } => {
-            *answer = [UNPROVABLE, 0, 0, 0, steps, indices, formulas, terms];
-            0
-        }
-        Outcome::Short { number, steps } => {
-            *answer = [SHORT, number, 0, 0, steps, 0, 0, 0];
-            number
-        }
-        Outcome::Refused { number, place } => {
-            *answer = [REFUSED, number, place, 0, 0, 0, 0, 0];
-            number
-        }
+        } => [UNPROVABLE, 0, 0, 0, steps, indices, formulas, terms],
     }
 }
 
-// A status as an answer; the number of the refusal or shortage, or 0.
-fn tell_status(status: Status, answer: &mut [usize; ANSWER]) -> usize
-    ensures number { result ≡ (Answers.numbers_of status).number }
-    ensures answer { answer.new ≡ in_order (verdict_of status) (Answers.numbers_of status) }
+// The status of a goal as an answer.
+#[tactic(auto, unfolding(status::specs::Answers::numbers_of))]
+fn status_answer(status: Result<Status, NoAnswer>) -> [usize; ANSWER]
+    ensures { result ≡ in_order (verdict_of status) (Answers.numbers_of status) }
 {
-    match status {
-        Status::Solvable => {
-            *answer = [SOLVABLE, 0, 0, 0, 0, 0, 0, 0];
-            0
-        }
-        Status::Unsolvable => {
-            *answer = [UNSOLVABLE, 0, 0, 0, 0, 0, 0, 0];
-            0
-        }
-        Status::Unknown => {
-            *answer = [UNKNOWN, 0, 0, 0, 0, 0, 0, 0];
-            0
-        }
-        Status::Short { number, steps } => {
-            *answer = [SHORT, number, 0, 0, steps, 0, 0, 0];
-            number
-        }
-        Status::Refused { number, place } => {
-            *answer = [REFUSED, number, place, 0, 0, 0, 0, 0];
-            number
-        }
-    }
+    let kind = match status {
+        Ok(Status::Solvable) => SOLVABLE,
+        Ok(Status::Unsolvable) => UNSOLVABLE,
+        Ok(Status::Unknown) => UNKNOWN,
+        Err(why) => return no_verdict(why),
+    };
+    [kind, 0, 0, 0, 0, 0, 0, 0]
 }
 
 // A test's place, 0 where nothing is refused; the number of the refusal, or 0.
-fn tell_test(tested: Tested, place: &mut usize) -> usize
-    ensures { Tests (refused_by tested) result place.new }
+fn tell_test(refused: Option<Refusal>, place: &mut usize) -> usize
+    ensures { Tests (refused_in refused) result place.new }
 {
-    *place = refusal::place_of(tested);
-    refusal::number_of(tested)
+    *place = refused.map_or(0, Refusal::place);
+    refused.map_or(0, Refusal::number)
 }
 
 // The search: `prove::prove`.
@@ -129,7 +119,8 @@ pub extern "C" fn quaysaffron_prove(
         work.new }
 {
     let outcome = prove::prove(words, count, assumed, names, goal, terms, work, steps);
-    tell_outcome(outcome, answer)
+    *answer = outcome_answer(outcome);
+    answer[NUMBER]
 }
 
 // The status of a goal: `status::solvable_status`.
@@ -147,7 +138,8 @@ pub extern "C" fn quaysaffron_status(
         work.old result answer.new words.new terms.new work.new }
 {
     let status = status::solvable_status(words, count, goal, terms, work, steps);
-    tell_status(status, answer)
+    *answer = status_answer(status);
+    answer[NUMBER]
 }
 
 // The house text of a term: `house_text::write_text`.
@@ -169,8 +161,7 @@ pub extern "C" fn quaysaffron_text(
     ensures place { place.new ≡ (written (draft words.now count assumptions names.now
         terms.now nodes root text.old)).place }
 {
-    let mut number = 0;
-    *size = house_text::write_text(
+    let draft = Draft {
         words,
         count,
         assumptions,
@@ -178,10 +169,13 @@ pub extern "C" fn quaysaffron_text(
         terms,
         nodes,
         root,
-        text,
-        &mut number,
-        place,
-    );
+    };
+    let (length, number, at) = match house_text::write_text(draft, text) {
+        Ok(length) => (length, 0, 0),
+        Err(refused) => (0, refused.number(), refused.place()),
+    };
+    *size = length;
+    *place = at;
     number
 }
 
@@ -190,8 +184,11 @@ pub extern "C" fn quaysaffron_text(
 pub extern "C" fn quaysaffron_name(index: usize, name: &mut [u8], size: &mut usize) -> usize
     ensures { Hands (name_alone index (length name.old)) size.new result name.new }
 {
-    let mut number = 0;
-    *size = identifier_generator::write_alone(index, name, &mut number);
+    let (length, number) = match identifier_generator::write_alone(index, name) {
+        Ok(length) => (length, 0),
+        Err(refused) => (0, refused.number()),
+    };
+    *size = length;
     number
 }
 
@@ -205,17 +202,17 @@ pub extern "C" fn quaysaffron_output(file: &[u8], out: &mut [u8; house_file::OUT
 }
 
 // 2, of the first `count` words alone: `refusal::bad_word`.
+#[tactic(auto, unfolding(theory::specs::Refusal::fault_at))]
 #[unsafe(no_mangle)]
 pub extern "C" fn quaysaffron_test_words(words: &[u32], count: usize, place: &mut usize) -> usize
     ensures { Tests (fault_at BadFormula (bad_word (take count words.now))) result place.new }
 {
-    match refusal::bad_word(words, count) {
-        Place::Nowhere => tell_test(Tested::Passed, place),
-        Place::At(i) => tell_test(Tested::BadFormula(i), place),
-    }
+    let refused = refusal::bad_word(words, count).map(Refusal::BadFormula);
+    tell_test(refused, place)
 }
 
 // 4, of a text that is to hold so many names: `refusal::bad_name`.
+#[tactic(auto, unfolding(theory::specs::Refusal::fault_at))]
 #[unsafe(no_mangle)]
 pub extern "C" fn quaysaffron_test_names(
     names: &[u8],
@@ -224,8 +221,6 @@ pub extern "C" fn quaysaffron_test_names(
 ) -> usize
     ensures { Tests (fault_at BadNames (bad_name assumptions names.now)) result place.new }
 {
-    match refusal::bad_name(names, assumptions) {
-        Place::Nowhere => tell_test(Tested::Passed, place),
-        Place::At(i) => tell_test(Tested::BadNames(i), place),
-    }
+    let refused = refusal::bad_name(names, assumptions).map(Refusal::BadNames);
+    tell_test(refused, place)
 }
