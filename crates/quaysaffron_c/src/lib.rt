@@ -1,5 +1,6 @@
 #![tactic(auto)]
 // The public calls for other languages to link: C's calling convention, a slice as a pointer and a length, the answer as numbers.
+// A call returns a number and sets the lent `answer`, `size` or `place` in the place of a `Result`: the C interface needs it so.
 ghost use Rattle.std.specs.Prelude.{◌≡◌, length, take, Err};
 ghost use Rattle.theory.specs.Form.{bad_word};
 ghost use Rattle.theory.specs.NameText.{bad_name, padded, name_alone};
