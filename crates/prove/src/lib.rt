@@ -1,7 +1,7 @@
 #![tactic(auto)]
 // The search of document 01: right, left and search, which call one another, and the public call. Dyckhoff's weight of the sequent is
-// the measure.
-ghost use Rattle.std.specs.Prelude.{◌≡◌, ◌≤◌, ◌<◌, length};
+// the measure. The lent slices are no part of `Setting`: search_left says why.
+ghost use Rattle.std.specs.Prelude.{◌≡◌, ◌<◌, length};
 ghost use Rattle.theory.specs.NameText.{names_in};
 ghost use Rattle.theory.specs.Names.{skipped, fresh};
 ghost use Rattle.theory.specs.Meter.{by_right, by_left};
@@ -22,17 +22,9 @@ use call::Outcome;
 use context::Record;
 use formula::{Kind, kind_at, left_at, right_at};
 use identifier_generator::GENERATED;
-use meter::{Answer, Limit, Limits, Missed, Next, Sequent, State};
+use meter::{Answer, Limit, Missed, Next, Sequent, State};
 use proof_term::Node;
-
-// What stays as it is through a whole search: the text of the names, and the limits. The lent slices are no part of it: behind a field
-// nothing is known of a slice's elements after they were read, and each call would owe a clause for the slices that it leaves alone.
-#[derive(Clone, Copy)]
-struct Setting<'a> {
-    names: &'a [u8],
-    limits: Limits,
-    ghost few: { length (names_in names.now) ≤ 64 },
-}
+use search_left::Setting;
 
 // Right: True, And and Impl; all else is left to left. And and Impl are not inlined here, since right's frame stands on the stack at every
 // level, whatever its goal.
@@ -174,7 +166,7 @@ fn left(
     let mut s = state;
     let mut p = sequent;
     loop {
-        match search_left::turn(words, terms, work, setting.names, setting.limits, s, p)? {
+        match search_left::turn(words, terms, work, setting, s, p)? {
             Next::Go(s1, p1) => {
                 s = s1;
                 p = p1;
@@ -344,8 +336,7 @@ fn attempt(
         (lent words.new terms.new work.new) }
 {
     let limits = setting.limits;
-    let x = identifier_generator::fresh(setting.names, state.indices);
-    let y = identifier_generator::fresh(setting.names, x + 1);
+    let (x, y) = setting.next_two(state.indices);
     let (s1, q1) = search_premises::first(words, terms, work, limits, state, sequent, i, x, y)?;
     let one = right(words, terms, work, setting, s1, q1)?;
     let (s2, q2) = search_premises::second(

@@ -35,18 +35,15 @@ use Rattle.search_laws.specs.Records.{top_term, to_of, first_of, second_of}
 use Rattle.search_left.proofs.Written.{put_append}
 use Rattle.search_left.proofs.LeftTurns.{kind_last, kind_from}
 
--- at most 64 names are skipped, so that the two indices after those that are used are small
-module _ {m : Limits} {x : Lent} {s : State} {q : Sequent} (rep : Rep m x s q) (text : List ℕ) (few : length (names_in text) ≤ 64) {g : ℕ}
-    (eg : g ≡ fresh (skipped (names_in text)) s.indices) where
-  pub first_near : g ≤ 4160
-  unfolding skipped
-  first_near =
-      let i = rep.within.in_indices in
-      omega (arith, fresh_bound (skipped (names_in text)) s.indices, length-append (names_in text) reserved)
+-- at most 64 names are skipped, so that the next index is near
+pub near : (text : List ℕ) → length (names_in text) ≤ 64 → (i : ℕ) {g : ℕ} → g ≡ fresh (skipped (names_in text)) i → g ≤ i + 64
+unfolding skipped
+near text few i e = omega (arith, fresh_bound (skipped (names_in text)) i, length-append (names_in text) reserved)
 
-  pub second_near : {h : ℕ} → h ≡ fresh (skipped (names_in text)) (g + 1) → h ≤ 4225
-  unfolding skipped
-  second_near eh = omega (arith, first_near, fresh_bound (skipped (names_in text)) (g + 1), length-append (names_in text) reserved)
+-- and the index after those that are used is small
+pub first_near : {m : Limits} {x : Lent} {s : State} {q : Sequent} → Rep m x s q → (text : List ℕ) → length (names_in text) ≤ 64 →
+    {g : ℕ} → g ≡ fresh (skipped (names_in text)) s.indices → g ≤ 4160
+first_near rep text few eg = omega (arith, near text few _ eg, rep.within.in_indices)
 
 names_rise : (taken : List (List ℕ)) {g h : ℕ} → h ≡ fresh taken (g + 1) → g < h
 names_rise taken {g} e = omega (arith, fresh_above taken (g + 1))

@@ -6,7 +6,7 @@
 ghost use Rattle.std.specs.Prelude.{◌≡◌, List, ℕ, ◌+◌, ◌≤◌, ◌<◌, length, map, set};
 ghost use Rattle.theory.specs.Form.{is_imp, word};
 ghost use Rattle.theory.specs.NameText.{names_in};
-ghost use Rattle.theory.specs.Names.{skipped};
+ghost use Rattle.theory.specs.Names.{skipped, fresh};
 ghost use Rattle.theory.specs.Meter.{by_left};
 ghost use Rattle.proof_term.specs.Kinds.{piece_of};
 ghost use Rattle.search_laws.specs.Reading.{lent, put_nodes};
@@ -21,6 +21,29 @@ use formula::Kind;
 use identifier_generator::GENERATED;
 use meter::{Answer, Found, Limit, Limits, Missed, Next, Sequent, State};
 use proof_term::Node;
+
+// What stays as it is through a whole search: the text of the names, which are few, so that the next indices are near, and the limits.
+// The lent slices are no part of it: why, is said above.
+#[derive(Clone, Copy)]
+pub struct Setting<'a> {
+    pub names: &'a [u8],
+    pub limits: Limits,
+    pub ghost few: { length (names_in names.now) ≤ 64 },
+}
+
+impl<'a> Setting<'a> {
+    // The two next indices after those in use.
+    pub fn next_two(&self, indices: usize) -> (usize, usize)
+        requires { indices ≤ 4096 }
+        ensures first { result.0 ≡ fresh (skipped (names_in self.now.names.now)) indices }
+        ensures second { result.1 ≡ fresh (skipped (names_in self.now.names.now)) (result.0 + 1) }
+        ensures near { result.1 ≤ 4225 }
+    {
+        let first = identifier_generator::fresh(self.names, indices);
+        let second = identifier_generator::fresh(self.names, first + 1);
+        (first, second)
+    }
+}
 
 // The end of a rule: its last node, which is found.
 pub fn close(terms: &mut [u16], limits: Limits, state: State, node: Node) -> Answer
@@ -171,28 +194,25 @@ fn and_impl(
     words: &mut [u32],
     terms: &mut [u16],
     work: &mut [Record],
-    names: &[u8],
-    limits: Limits,
+    setting: &Setting,
     state: State,
     sequent: Sequent,
     a: usize,
     x: usize,
 ) -> Result<Next, Missed>
-    requires represented { Rep limits (lent words.old terms.old work.old) state sequent }
+    requires represented { Rep setting.now.limits (lent words.old terms.old work.old) state sequent }
     requires last { LastFrom (lent words.old terms.old work.old) sequent 3 a x }
-    requires few { length (names_in names.now) ≤ 64 }
-    ensures { Turns limits (skipped (names_in names.now)) (lent words.old terms.old
+    ensures { Turns setting.now.limits (skipped (names_in setting.now.names.now)) (lent words.old terms.old
         work.old) state sequent by_left result (lent words.new terms.new work.new) }
 {
     let inner = state.formulas;
     let outer = inner + 1;
     let at = state.terms;
     let last = at + 6;
-    let first = identifier_generator::fresh(names, state.indices);
-    let second = identifier_generator::fresh(names, first + 1);
+    let (first, second) = setting.next_two(state.indices);
     let used = second + 1;
     state.charge(
-        limits,
+        setting.limits,
         used,
         inner + 2,
         at + 7,
@@ -219,17 +239,15 @@ fn or_impl(
     words: &mut [u32],
     terms: &mut [u16],
     work: &mut [Record],
-    names: &[u8],
-    limits: Limits,
+    setting: &Setting,
     state: State,
     sequent: Sequent,
     a: usize,
     x: usize,
 ) -> Result<Next, Missed>
-    requires represented { Rep limits (lent words.old terms.old work.old) state sequent }
+    requires represented { Rep setting.now.limits (lent words.old terms.old work.old) state sequent }
     requires last { LastFrom (lent words.old terms.old work.old) sequent 4 a x }
-    requires few { length (names_in names.now) ≤ 64 }
-    ensures { Turns limits (skipped (names_in names.now)) (lent words.old terms.old
+    ensures { Turns setting.now.limits (skipped (names_in setting.now.names.now)) (lent words.old terms.old
         work.old) state sequent by_left result (lent words.new terms.new work.new) }
 {
     let one = state.formulas;
@@ -238,11 +256,10 @@ fn or_impl(
     let middle = at + 4;
     let half = at + 5;
     let last = at + 9;
-    let first = identifier_generator::fresh(names, state.indices);
-    let second = identifier_generator::fresh(names, first + 1);
+    let (first, second) = setting.next_two(state.indices);
     let used = second + 1;
     state.charge(
-        limits,
+        setting.limits,
         used,
         one + 2,
         at + 10,
@@ -267,24 +284,22 @@ fn left_impl(
     words: &mut [u32],
     terms: &mut [u16],
     work: &mut [Record],
-    names: &[u8],
-    limits: Limits,
+    setting: &Setting,
     state: State,
     sequent: Sequent,
     a: usize,
     x: usize,
 ) -> Result<Next, Missed>
-    requires represented { Rep limits (lent words.old terms.old work.old) state sequent }
+    requires represented { Rep setting.now.limits (lent words.old terms.old work.old) state sequent }
     requires last { Last (lent words.old terms.old work.old) sequent 5 a x }
-    requires few { length (names_in names.now) ≤ 64 }
-    ensures { Turns limits (skipped (names_in names.now)) (lent words.old terms.old
+    ensures { Turns setting.now.limits (skipped (names_in setting.now.names.now)) (lent words.old terms.old
         work.old) state sequent by_left result (lent words.new terms.new work.new) }
 {
     match formula::kind_at(words, formula::left_at(words, a)) {
-        Kind::True => true_impl(words, terms, work, limits, state, sequent, a, x),
+        Kind::True => true_impl(words, terms, work, setting.limits, state, sequent, a, x),
         Kind::False => Ok(Next::Go(state, context::pop(sequent))),
-        Kind::And => and_impl(words, terms, work, names, limits, state, sequent, a, x),
-        Kind::Or => or_impl(words, terms, work, names, limits, state, sequent, a, x),
+        Kind::And => and_impl(words, terms, work, setting, state, sequent, a, x),
+        Kind::Or => or_impl(words, terms, work, setting, state, sequent, a, x),
         _ => Ok(Next::Go(state, context::append(work, context::pop(sequent), a, x))),
     }
 }
@@ -294,15 +309,13 @@ fn left_rule(
     words: &mut [u32],
     terms: &mut [u16],
     work: &mut [Record],
-    names: &[u8],
-    limits: Limits,
+    setting: &Setting,
     state: State,
     sequent: Sequent,
 ) -> Result<Next, Missed>
-    requires represented { Rep limits (lent words.old terms.old work.old) state sequent }
+    requires represented { Rep setting.now.limits (lent words.old terms.old work.old) state sequent }
     requires some { 0 < sequent.ordered }
-    requires few { length (names_in names.now) ≤ 64 }
-    ensures { Turns limits (skipped (names_in names.now)) (lent words.old terms.old
+    ensures { Turns setting.now.limits (skipped (names_in setting.now.names.now)) (lent words.old terms.old
         work.old) state sequent by_left result (lent words.new terms.new work.new) }
 {
     let at = context::top(sequent);
@@ -310,10 +323,10 @@ fn left_rule(
     let x = context::term_at(work, at);
     match formula::kind_at(words, a) {
         Kind::True => Ok(Next::Go(state, context::pop(sequent))),
-        Kind::False => Ok(Next::End(close(terms, limits, state, Node::Abort(x))?)),
-        Kind::And => left_and(words, terms, work, limits, state, sequent, a, x),
+        Kind::False => Ok(Next::End(close(terms, setting.limits, state, Node::Abort(x))?)),
+        Kind::And => left_and(words, terms, work, setting.limits, state, sequent, a, x),
         Kind::Or => Ok(Next::Split(state, sequent)),
-        Kind::Impl => left_impl(words, terms, work, names, limits, state, sequent, a, x),
+        Kind::Impl => left_impl(words, terms, work, setting, state, sequent, a, x),
         _ => Ok(Next::Go(state, context::append(work, context::pop(sequent), a, x))),
     }
 }
@@ -323,26 +336,24 @@ pub fn turn(
     words: &mut [u32],
     terms: &mut [u16],
     work: &mut [Record],
-    names: &[u8],
-    limits: Limits,
+    setting: &Setting,
     state: State,
     sequent: Sequent,
 ) -> Result<Next, Missed>
-    requires represented { Rep limits (lent words.old terms.old work.old) state sequent }
-    requires few { length (names_in names.now) ≤ 64 }
-    ensures { Turned limits (skipped (names_in names.now))
+    requires represented { Rep setting.now.limits (lent words.old terms.old work.old) state sequent }
+    ensures { Turned setting.now.limits (skipped (names_in setting.now.names.now))
         (lent words.old terms.old work.old) state sequent result
         (lent words.new terms.new work.new) }
 {
-    if limits.steps <= state.steps {
+    if setting.limits.steps <= state.steps {
         return Err(Missed::Short(Limit::Steps, state));
     }
     let s = state.counted();
     if 0 < sequent.ordered {
-        return left_rule(words, terms, work, names, limits, s, sequent);
+        return left_rule(words, terms, work, setting, s, sequent);
     }
-    if limits.steps <= s.steps {
+    if setting.limits.steps <= s.steps {
         return Err(Missed::Short(Limit::Steps, s));
     }
-    search_leaves::settle(words, terms, work, limits, s.counted(), sequent)
+    search_leaves::settle(words, terms, work, setting.limits, s.counted(), sequent)
 }

@@ -15,7 +15,7 @@ use Rattle.search_laws.proofs.Combine.{stop, entered}
 use Rattle.search_laws.proofs.Right.{right_true_lem, right_else_lem}
 use Rattle.search_laws.proofs.Halves.{tries_else}
 use Rattle.search_laws.proofs.Ranging.{going_starts, going_skips, going_fails, ranges_found, ranges_short, ranges_end}
-use Rattle.search_left.proofs.LeftMakes.{first_near, second_near}
+use Rattle.search_left.proofs.LeftMakes.{first_near}
 use Rattle.search_premises.specs.Asked.{lacks, asks}
 use Rattle.search_premises.proofs.Makes.{tested, raises_short, copy_room}
 use Rattle.search_premises.proofs.Asking.{made_for, found_back, raised_found, raised_failed, raised_rep, raised_by}
@@ -406,65 +406,64 @@ positions-returns t c =
     ranges_end c.loop-i.invariant.3 c.loop-i-test.false
 
 -- a try
-pub attempt-overflow_add-x : goal.attempt-overflow_add-x
-attempt-overflow_add-x t c =
-    omega (arith, first_near c.requires.represented c.args.setting.now.names.now c.args.setting.now.few c.fresh-x.ensures)
-
-pub attempt-fresh-y-requires : goal.attempt-fresh-y-requires
-attempt-fresh-y-requires t c =
-    let h = first_near c.requires.represented c.args.setting.now.names.now c.args.setting.now.few c.fresh-x.ensures in omega arith
-
 pub attempt-first-requires-clause-indices : goal.attempt-first-requires-clause-indices
 attempt-first-requires-clause-indices t c = (
-  omega (arith, c.fresh-y.ensures, fresh_above (skipped (names_in c.args.setting.now.names.now)) (c.fresh-x.result + 1)),
-  omega (arith, second_near c.requires.represented c.args.setting.now.names.now c.args.setting.now.few c.fresh-x.ensures c.fresh-y.ensures),
+  omega (arith, c.next_two-x.ensures.second, fresh_above (skipped (names_in c.args.setting.now.names.now)) (c.next_two-x.result.0 + 1)),
+  omega (arith, c.next_two-x.ensures.near),
 )
 
 pub attempt-right-requires : goal.attempt-right-requires
 attempt-right-requires t c =
-    let p = c.in_ok-s1.ensures _ c.fresh-x.ensures c.fresh-y.ensures in (
-      omega (arith, c.decreases, first_less c.requires.represented c.requires.nested _ c.fresh-x.ensures c.fresh-y.ensures p),
+    let e = c.next_two-x.ensures in
+    let p = c.in_ok-s1.ensures _ e.first e.second in (
+      omega (arith, c.decreases, first_less c.requires.represented c.requires.nested _ e.first e.second p),
       (made_for p).rep,
     )
 
 pub attempt-second-requires : goal.attempt-second-requires
 attempt-second-requires t c =
-    let p = c.in_ok-s1.ensures _ c.fresh-x.ensures c.fresh-y.ensures in
-    let b = try_back _ c.requires.represented c.requires.nested c.fresh-x.ensures c.fresh-y.ensures p c.in_ok-one.ensures in
+    let e = c.next_two-x.ensures in
+    let p = c.in_ok-s1.ensures _ e.first e.second in
+    let b = try_back _ c.requires.represented c.requires.nested e.first e.second p c.in_ok-one.ensures in
     record {
       represented = b.0.rep;
-      nested = try_nested _ c.requires.represented c.requires.nested c.fresh-x.ensures c.fresh-y.ensures p c.in_ok-one.ensures;
+      nested = try_nested _ c.requires.represented c.requires.nested e.first e.second p c.in_ok-one.ensures;
       proof = b.1;
     }
 
 pub attempt-left-requires : goal.attempt-left-requires
 attempt-left-requires t c =
-    let p = c.in_ok-s1.ensures _ c.fresh-x.ensures c.fresh-y.ensures in
-    let b = try_back _ c.requires.represented c.requires.nested c.fresh-x.ensures c.fresh-y.ensures p c.in_ok-one.ensures in
-    let n = try_nested _ c.requires.represented c.requires.nested c.fresh-x.ensures c.fresh-y.ensures p c.in_ok-one.ensures in (
+    let e = c.next_two-x.ensures in
+    let p = c.in_ok-s1.ensures _ e.first e.second in
+    let b = try_back _ c.requires.represented c.requires.nested e.first e.second p c.in_ok-one.ensures in
+    let n = try_nested _ c.requires.represented c.requires.nested e.first e.second p c.in_ok-one.ensures in (
       omega (arith, c.decreases, second_less b.0.rep n c.in_ok-s2.ensures, weigh_back M.by_search c.requires.represented b.0),
       (made_for c.in_ok-s2.ensures).rep,
     )
 
 pub attempt-returns-in_err-s1 : goal.attempt-returns-in_err-s1
 attempt-returns-in_err-s1 t c =
+    let e = c.next_two-x.ensures in
     rw (carried c.from_residual.ensures)
-    (first_short _ c.requires.represented c.requires.nested c.fresh-x.ensures c.fresh-y.ensures
-    (c.in_err-s1.ensures _ c.fresh-x.ensures c.fresh-y.ensures))
+    (first_short _ c.requires.represented c.requires.nested e.first e.second
+    (c.in_err-s1.ensures _ e.first e.second))
 
 pub attempt-returns-in_err-one : goal.attempt-returns-in_err-one
 attempt-returns-in_err-one t c =
+    let e = c.next_two-x.ensures in
     rw (carried c.from_residual-in_err-one.ensures)
-    (first_missed _ c.requires.represented c.requires.nested c.fresh-x.ensures c.fresh-y.ensures
-    (c.in_ok-s1.ensures _ c.fresh-x.ensures c.fresh-y.ensures) c.in_err-one.ensures)
+    (first_missed _ c.requires.represented c.requires.nested e.first e.second
+    (c.in_ok-s1.ensures _ e.first e.second) c.in_err-one.ensures)
 
 pub attempt-returns-in_err-s2 : goal.attempt-returns-in_err-s2
 attempt-returns-in_err-s2 t c =
+    let e = c.next_two-x.ensures in
     rw (carried c.from_residual-in_err-s2.ensures)
-    (second_lacks _ c.requires.represented c.requires.nested c.fresh-x.ensures c.fresh-y.ensures
-    (c.in_ok-s1.ensures _ c.fresh-x.ensures c.fresh-y.ensures) c.in_ok-one.ensures c.in_err-s2.ensures)
+    (second_lacks _ c.requires.represented c.requires.nested e.first e.second
+    (c.in_ok-s1.ensures _ e.first e.second) c.in_ok-one.ensures c.in_err-s2.ensures)
 
 pub attempt-returns : goal.attempt-returns
 attempt-returns t c =
-    try_both _ c.requires.represented c.requires.nested c.fresh-x.ensures c.fresh-y.ensures
-    (c.in_ok-s1.ensures _ c.fresh-x.ensures c.fresh-y.ensures) c.in_ok-one.ensures c.in_ok-s2.ensures c.left.ensures
+    let e = c.next_two-x.ensures in
+    try_both _ c.requires.represented c.requires.nested e.first e.second
+    (c.in_ok-s1.ensures _ e.first e.second) c.in_ok-one.ensures c.in_ok-s2.ensures c.left.ensures

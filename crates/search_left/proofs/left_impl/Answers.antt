@@ -14,7 +14,7 @@ true_impl-requires c =
 
 pub returns-in-False : goal.returns-in-False
 returns-in-False c =
-    drop_impl_on (skipped (names_in c.args.names.now)) c.requires.represented
+    drop_impl_on (skipped (names_in c.args.setting.now.names.now)) c.requires.represented
     (last_from c.requires.last c.left_at.ensures c.kind_at.ensures c.in-False.is) c.pop.ensures
 
 pub and_impl-requires : goal.and_impl-requires
@@ -22,7 +22,6 @@ and_impl-requires c =
     record {
       represented = c.requires.represented;
       last = last_from c.requires.last c.left_at.ensures c.kind_at.ensures c.in-And.is;
-      few = c.requires.few;
     }
 
 pub or_impl-requires : goal.or_impl-requires
@@ -30,7 +29,6 @@ or_impl-requires c =
     record {
       represented = c.requires.represented;
       last = last_from c.requires.last c.left_at.ensures c.kind_at.ensures c.in-Or.is;
-      few = c.requires.few;
     }
 
 pub append-requires : goal.append-requires
@@ -40,6 +38,6 @@ append-requires c =
 pub returns-in_default : goal.returns-in_default
 returns-in_default c =
     let d = c.in_default in
-    wait_on (skipped (names_in c.args.names.now)) c.requires.represented c.pop-in_default.ensures
+    wait_on (skipped (names_in c.args.setting.now.names.now)) c.requires.represented c.pop-in_default.ensures
     c.append.ensures.work c.append.ensures.result c.requires.last c.left_at.ensures c.kind_at.ensures
     d.not-True d.not-False d.not-And d.not-Or
