@@ -23,7 +23,7 @@ use meter::{Answer, Found, Limit, Limits, Missed, Next, Sequent, State};
 use proof_term::Node;
 
 // What stays as it is through a whole search: the text of the names, which are few, so that the next indices are near, and the limits.
-// The lent slices are no part of it: why, is said above.
+// The lent slices are no part of it, for the reason that is given above.
 #[derive(Clone, Copy)]
 pub struct Setting<'a> {
     pub names: &'a [u8],
