@@ -3,8 +3,8 @@
 // case's name and what came back.
 mod show;
 
+use std::io;
 use std::io::Write;
-use std::{fs, io};
 use test_lists::Rows;
 use test_runs::Row;
 
@@ -47,7 +47,7 @@ fn lines<W: Write>(out: &mut W, list: &[u8]) -> io::Result<()> {
 }
 
 fn main(rt: HostRuntime) -> io::Result<()> {
-    let list = fs::read(&rt, "list")?;
+    let list = test_lists::read(&rt)?;
     if list.is_empty() {
         return Ok(());
     }

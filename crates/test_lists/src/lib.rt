@@ -6,7 +6,21 @@
 ghost use Rattle.std.specs.Prelude.{◌≡◌};
 ghost use Rattle.std.specs.Iterator.{at_most};
 
+use std::io::Read;
+use std::rt::Files;
+use std::{fs, io};
 use test_runs::{Book, Row};
+
+// The most bytes of a list; what a file has behind them is not read.
+const MOST_BYTES: u64 = 524288;
+
+// The list that lies beside a program.
+pub fn read<R: Files + AllocGlobal>(rt: &R) -> io::Result<Vec<u8>> {
+    let mut list = Vec::new(rt.alloc());
+    let mut file = fs::open(rt, "list")?.take(MOST_BYTES);
+    file.read_to_end(&mut list)?;
+    Ok(list)
+}
 
 // How the list was made.
 pub fn made(list: &[u8]) -> &[u8] {

@@ -2,8 +2,8 @@
 // The oracle's answers: every row of the list through the public calls, and every number compared.
 mod tally;
 
+use std::io;
 use std::io::Write;
-use std::{fs, io};
 use tally::Tally;
 use test_lists::Rows;
 use test_runs::{Answer, Call, Row};
@@ -73,7 +73,7 @@ fn replay_all<W: Write>(out: &mut W, list: &[u8]) -> io::Result<()> {
 }
 
 fn main(rt: HostRuntime) -> io::Result<()> {
-    let list = fs::read(&rt, "list")?;
+    let list = test_lists::read(&rt)?;
     if list.is_empty() {
         return Ok(());
     }
