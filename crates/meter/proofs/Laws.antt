@@ -1,4 +1,4 @@
--- The numbers of limits, and what a charge's answer says of what it lacks. Assumes nothing.
+-- What a charge's answer says of what it lacks. Assumes nothing.
 use Rattle.std.specs.Prelude.{Result, Ok, Err, IsErr, IsErrAnd}
 use Rattle.std.proofs.lemmas.Result.{err_from_is_err_and}
 use borrow.Author.Rules.{rules}
@@ -6,21 +6,10 @@ use native.Mathlib.Omega.{arith}
 use mathlib.Core.Path.{◌≡◌, refl, sym, ap, ◌∙◌}
 use mathlib.Core.Option.{Option, none, some}
 use Rattle.theory.specs.Meter.{Lack}
-use Rattle.theory.specs.Refusal.{lack_number}
 use Rattle.meter.specs.declared.State.{State}
 use Rattle.meter.specs.declared.Missed.{Missed}
 use Rattle.meter.specs.declared.Missed.TheVariants.{Short}
-use Rattle.meter.specs.Moves.{limit_of, number_of, charged}
-
--- a limit's number is the table's
-pub same_number : (l : Lack) → number_of (limit_of l) ≡ lack_number l
-unfolding limit_of lack_number
-same_number Lack.Steps = refl
-same_number Lack.Names = refl
-same_number Lack.Formulas = refl
-same_number Lack.Terms = refl
-same_number Lack.Contexts = refl
-same_number Lack.Levels = refl
+use Rattle.meter.specs.Moves.{limit_of, charged}
 
 charged_none : (s : State) → charged none s ≡ Ok tt
 unfolding charged

@@ -129,12 +129,6 @@ module _ {m : Limits} {x x1 y : Lent} {s s1 : State} {q q1 : Sequent} {u : ℕ} 
         back_at rep (frame_less (omega arith) (omega arith) (omega arith) (after_made k)) k.within k.after.laid
         (omega (arith, mk.formulas_up, k.after.formulas_up)) (omega (arith, mk.terms_up, k.after.terms_up))
 
-    -- the state before the premise still fits the lists after it
-    pub back_before : {r : Answer} → Kept m x1 s1 q1 r y → Back m x s q s y
-    back_before k =
-        let f : Frame x s.formulas s.terms (q.level + 1) y = frame_less (omega arith) (omega arith) (omega arith) (after_made k) in
-        back_at rep f rep.within (laid_same f.words rep.laid) (omega arith) (omega arith)
-
     pub back_failed : {s2 : State} → Kept m x1 s1 q1 (Err (Failed s2)) y → Back m x s q (returned s s2) y
     back_failed k = back_returned rep (frame_less (omega arith) (omega arith) (omega arith) (after_made k)) k.within
 

@@ -1,15 +1,15 @@
 -- The sequent gets smaller on each way through right, from left to search, and in the halves of an Or goal. Assumes nothing.
 use Prim.Native.Nat.{ℕ, ◌<◌}
 use mathlib.Core.Path.{◌≡◌}
-use mathlib.Core.List.{List, [], ◌++◌}
+use mathlib.Core.List.{List, []}
 use Rattle.theory.specs.Form.{Form, and, or, imp, form, shape_of, trees, tree_of}
 use Rattle.theory.specs.Term.{Node}
 use Rattle.theory.specs.Weight.{weight}
 use Rattle.theory.specs.Meter as M
 use Rattle.theory.specs.Premise.{forms_of, asked}
-use Rattle.theory.specs.Search.{entry, goal_up, push_up}
+use Rattle.theory.specs.Search.{entry, push_up}
 use Rattle.theory.proofs.Weight.{and_left, and_right, or_left, or_right, imp_left, imp_right}
-use Rattle.theory.proofs.Size.{turn_left, turn_search, goal_down, goal_push, half_down}
+use Rattle.theory.proofs.Size.{turn_left, turn_search, goal_push}
 use Rattle.theory.proofs.Forms.{at_ext, ext_by}
 use Rattle.theory.proofs.Context.{and_more, reads_ext}
 use Rattle.meter.specs.declared.State.{State}
@@ -22,7 +22,7 @@ use Rattle.search_laws.specs.Meaning.{weigh}
 use Rattle.search_laws.specs.Making.{Made}
 use Rattle.search_laws.proofs.Look.{shape_as}
 use Rattle.search_laws.proofs.RightImpl.{impl_parts, impl_next}
-use Rattle.search_laws.proofs.Falls.{ReadsAs, book_of, at_index, form_by, reading, falls_made}
+use Rattle.search_laws.proofs.Falls.{book_of, at_index, form_by, reading, falls_made}
 
 -- the same sequent at a lower rank
 pub right_to_left : (f : List ℕ) (n : ℕ) (w : List Rec) (q : Sequent) → weigh M.by_left f n w q < weigh M.by_right f n w q
@@ -68,26 +68,7 @@ module _ {m : Limits} {x : Lent} {s : State} {q : Sequent} (rep : Rep m x s q) w
       let R : Form = form (book_of x s) (right_at x.words q.goal) in
       let f : G ≡ or P R = goal_by e in (rw f (or_left P R), rw f (or_right P R))
 
-  -- a lighter goal, the contexts as they are
-  up_reads : (g : ℕ) → g < s.formulas → ReadsAs (book_of x s ++ []) (goal_up (seq_of x.records q) g) U O (form (book_of x s) g)
-  unfolding goal_up
-  up_reads g h = let more = ext_by (book_of x s) [] in record {
-    unordered = reads_ext more (reading rep).unordered;
-    ordered = reads_ext more (reading rep).ordered;
-    goal = at_ext more (at_index rep h);
-  }
-
   module _ {x1 : Lent} {s1 : State} {q1 : Sequent} {u : ℕ} {ns : List Node} where
-    pub up_falls : (g : ℕ) → g < s.formulas → weight (form (book_of x s) g) < weight G →
-        Made m x s q u [] ns (goal_up (seq_of x.records q) g) x1 s1 q1 →
-        weigh M.by_right x1.words s1.formulas x1.records q1 < weigh M.by_right x.words s.formulas x.records q
-    up_falls g h l mk = falls_made M.by_right M.by_right mk (reading rep) (up_reads g h) (goal_down U O G (form (book_of x s) g) l)
-
-    pub half_goal_falls : (g : ℕ) → g < s.formulas → weight (form (book_of x s) g) < weight G →
-        Made m x s q u [] ns (goal_up (seq_of x.records q) g) x1 s1 q1 →
-        weigh M.by_right x1.words s1.formulas x1.records q1 < weigh M.by_search x.words s.formulas x.records q
-    half_goal_falls g h l mk = falls_made M.by_search M.by_right mk (reading rep) (up_reads g h) (half_down U O G (form (book_of x s) g) l)
-
     pub right_impl_falls : (taken : List (List ℕ)) (e : kind_at x.words q.goal ≡ 5) →
         Made m x s q u [] ns (impl_next taken rep e) x1 s1 q1 →
         weigh M.by_right x1.words s1.formulas x1.records q1 < weigh M.by_right x.words s.formulas x.records q

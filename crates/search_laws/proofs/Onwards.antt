@@ -11,7 +11,7 @@ use Rattle.meter.specs.Moves.{Answer, stepped}
 use Rattle.context.specs.Area.{Rec}
 use Rattle.search_laws.specs.Reading.{Lent}
 use Rattle.search_laws.specs.Keeping.{Rep}
-use Rattle.search_laws.specs.Meaning.{Meets, Goes, weigh, Onward, GoesOn}
+use Rattle.search_laws.specs.Meaning.{Meets, Goes, weigh, GoesOn}
 use Rattle.search_laws.proofs.Combine.{entered}
 
 -- one step more, where one is left
@@ -34,15 +34,6 @@ pub weigh_step : (s : State) {s1 : State} (j : M.Judgement) (f : List ℕ) (w : 
 weigh_step s j f w q e = ap (λ (v : State). weigh j f v.formulas w q) e
 
 module _ {m : Limits} {taken : List (List ℕ)} {x : Lent} {s : State} {q : Sequent} where
-  -- before the first turn
-  pub onward_none : Rep m x s q → Onward m taken x s q x s q
-  onward_none rep = record { rep = rep; carries = λ r y p. p; falls = omega arith }
-
-  -- one turn more
-  pub onward_then : {x1 x2 : Lent} {s1 s2 : State} {q1 q2 : Sequent} → Onward m taken x s q x1 s1 q1 → Onward m taken x1 s1 q1 x2 s2 q2 →
-      Onward m taken x s q x2 s2 q2
-  onward_then a b = record { rep = b.rep; carries = λ r y p. a.carries r y (b.carries r y p); falls = omega (arith, a.falls, b.falls) }
-
   -- a turn whose rule goes on by left
   pub goes_on : {x1 : Lent} {s1 s2 : State} {q1 : Sequent} → s.steps < m.steps → s1 ≡ stepped s → Rep m x1 s2 q1 →
       ((r : Answer) (y : Lent) → Meets M.by_left m taken x1 s2 q1 r y → Goes M.by_left m taken x s1 q r y) →
