@@ -1,12 +1,13 @@
 -- A little-endian number byte by byte from its last one on, over its width. Assumes nothing.
 use Prim.Native.Nat.{ℕ, suc, ◌+◌, ◌-◌, ◌*◌, ◌^◌, ◌≤◌, ◌<◌}
 use mathlib.Core.Path.{◌≡◌, sym, ap, ap₂, ◌∙◌, subst}
-use mathlib.Core.List.{List}
+use mathlib.Core.List.{List, reverse}
 use native.Mathlib.Omega.{arith}
-use native.Mathlib.Nat.{le_trans, pow-le-pow_right, pow-succ'}
+use native.Mathlib.Nat.{pow-succ'}
 use lib.ListN.{length, get_or, take, drop, drop_of_length-le}
 use lib.Seq.{length-take-le, drop-cons, get_or-take, get_or-drop}
 use lib.ListN.{length-drop}
+use Rattle.std.proofs.lemmas.List.{get_or_default, get_or-reverse, length-reverse}
 use Rattle.theory.specs.File.{little_endian}
 use Rattle.theory.proofs.Pack.{pair_below}
 
@@ -48,6 +49,35 @@ module _ (bs : List ℕ) (at width : ℕ) (fits : at + width ≤ length bs) wher
             (pair_below 256 (256 ^ (width - left)) (get_or bs (at + (left - 1)) 0) number b r.below);
       }
 
--- a number of at most four bytes has at most 32 bits
-pub in_four : (width number : ℕ) → width ≤ 4 → number < 256 ^ width → number < 4294967296
-in_four width number h l = le_trans l (pow-le-pow_right {n = 256} (omega arith) h)
+  -- the part of the file that the code reads from its end on
+  abbrev pub part : List ℕ
+  part = take (at + width - at) (drop at bs)
+
+  pub last_read : (number n b : ℕ) → Read bs at width number (width - n) → n < length (reverse part) → b ≡ get_or (reverse part) n b →
+      ((i : ℕ) → get_or bs i 0 < 256) → Read bs at width (b + 256 * number) (width - (n + 1))
+  last_read number n b r h e small =
+      let size : at + width - at ≡ width = omega arith in
+      let long : length part ≡ width = ap (λ (k : ℕ). length (take k (drop at bs))) size ∙ part_long in
+      let inside : n < length part = omega (arith, h, length-reverse part) in
+      let place : length part - 1 - n ≡ width - n - 1 = omega arith in
+      let low : width - n - 1 < at + width - at = omega arith in
+      let byte : b ≡ get_or bs (at + (width - n - 1)) 0 =
+      e ∙ get_or-reverse part n b inside
+      ∙ ap (λ (k : ℕ). get_or part k b) place
+      ∙ get_or_default part (width - n - 1) b 0 (omega arith)
+      ∙ get_or-take (at + width - at) (drop at bs) (width - n - 1) 0 low
+      ∙ get_or-drop at bs (width - n - 1) 0 in
+      subst (λ (k : ℕ). Read bs at width (b + 256 * number) k) (let next : width - n - 1 ≡ width - (n + 1) = omega arith in next)
+      (subst (λ (v : ℕ). Read bs at width (v + 256 * number) (width - n - 1)) (sym byte)
+      (byte_read number (width - n) r (omega arith) (small (at + (width - n - 1)))))
+
+  pub all_read : (number n : ℕ) → Read bs at width number (width - n) → n ≡ length (reverse part) →
+      (number ≡ little_endian (take width (drop at bs))) × (number < 256 ^ width)
+  all_read number n r e =
+      let size : at + width - at ≡ width = omega arith in
+      let long : length part ≡ width = ap (λ (k : ℕ). length (take k (drop at bs))) size ∙ part_long in
+      let none : width - n ≡ 0 = omega (arith, e, length-reverse part) in
+      let all : width - (width - n) ≡ width = omega arith in (
+        r.value ∙ ap (λ (k : ℕ). little_endian (drop k (take width (drop at bs)))) none,
+        subst (λ (k : ℕ). number < 256 ^ k) all r.below,
+      )

@@ -19,9 +19,9 @@ fn number_at<const WIDTH: usize>(file: &[u8], at: usize) -> usize
     ensures result { result ≡ little_endian (take WIDTH (drop at file.now)) }
     ensures bounded { result < 256 ^ WIDTH }
 {
-    let mut number: usize = 0;
-    for i in (0..WIDTH).rev() {
-        number = file[at + i] as usize + 256 * number;
+    let mut number = 0;
+    for byte in file[at..at + WIDTH].iter().rev() {
+        number = *byte as usize + 256 * number;
     }
     number
 }

@@ -1,39 +1,36 @@
--- `number_at` has read the bytes from place `i` on. Assumes nothing.
+-- `number_at` has read the last bytes. Assumes nothing.
+use Prim.Native.Nat.{ℕ, ◌-◌}
+use mathlib.Core.Path.{◌≡◌, subst}
 use native.Mathlib.Omega.{arith}
-use mathlib.Core.Path.{◌≡◌, ◌∙◌, ap, subst}
-use Prim.Native.Nat.{ℕ, ◌+◌, ◌-◌, ◌^◌, ◌<◌}
-use lib.ListN.{take, drop}
-use Rattle.theory.specs.File.{little_endian}
-use Rattle.house_sections.proofs.Numbers.{none_read, byte_read, in_four}
-use Rattle.house_sections.proofs.number_at.Given.{Over}
+use lib.ListN.{length}
+use Rattle.std.proofs.lemmas.Iterator.Adapters.{YieldsList-from_rev_slice}
+use Rattle.std.proofs.lemmas.Iterator.Consumers.{YieldsList-turn, YieldsList-end}
+use Rattle.std.proofs.lemmas.List.{length_push}
+use Rattle.house_sections.proofs.Numbers.{Read, part, none_read, last_read, all_read}
 use Rattle.house_sections.proofs.number_at.Goals as goal
-use Rattle.house_sections.proofs.number_at.Goals.{In-loop-i}
 
--- what is read so far has at most 32 bits
-small : (g : Over) (c : In-loop-i g) → c.loop-i.number < 4294967296
-small g c =
-    in_four (g.row.WIDTH - c.loop-i.i) c.loop-i.number (omega (arith, c.requires.narrow)) c.loop-i.invariant.below
+pub loop-byte-init : goal.loop-byte-init
+loop-byte-init g c =
+    let none : g.row.WIDTH ≡ g.row.WIDTH - 0 = omega arith in
+    subst (λ (k : ℕ). Read c.args.file.now c.args.at g.row.WIDTH 0 k) none
+    (none_read c.args.file.now c.args.at g.row.WIDTH c.requires.inside)
 
-pub loop-i-init : goal.loop-i-init
-loop-i-init g c = none_read c.args.file.now c.args.at g.row.WIDTH c.requires.inside
-
-pub overflow_mul-number : goal.overflow_mul-number
-overflow_mul-number g c = omega (arith, small g (goal.at.overflow_mul-number g c).In-loop-i)
-
-pub overflow_add-number-in-loop-i : goal.overflow_add-number-in-loop-i
-overflow_add-number-in-loop-i g c =
-    omega (arith, small g (goal.at.overflow_add-number-in-loop-i g c).In-loop-i, c.type_inv.file (c.args.at + (c.loop-i.i - 1)))
-
-pub loop-i-preserved : goal.loop-i-preserved
-loop-i-preserved g c =
-    byte_read c.args.file.now c.args.at g.row.WIDTH c.requires.inside c.loop-i.number
-    c.loop-i.i c.loop-i.invariant (omega arith) (omega (arith, c.type_inv.file (c.args.at + (c.loop-i.i - 1))))
+pub loop-byte-preserved : goal.loop-byte-preserved
+loop-byte-preserved g c =
+    let bytes = part c.args.file.now c.args.at g.row.WIDTH c.requires.inside in
+    let t =
+    YieldsList-turn (YieldsList-from_rev_slice bytes (cc)) c.loop-byte.yielded _ c.loop-byte.yielded_by _ _
+    c.in-Some.byte c.in-Some.is c.next.ensures.steps in
+    rw length_push (last_read c.args.file.now c.args.at g.row.WIDTH c.requires.inside c.loop-byte.number
+    (length c.loop-byte.yielded) c.in-Some.byte.now c.loop-byte.invariant t.0 t.1
+    (λ (i : ℕ). omega (arith, c.type_inv.file i)))
 
 pub returns : goal.returns
 returns g c =
-    let none : c.loop-i.i ≡ 0 = omega arith in
-    let all : g.row.WIDTH - c.loop-i.i ≡ g.row.WIDTH = omega arith in
-    let part = take g.row.WIDTH (drop c.args.at c.args.file.now) in record {
-      result = c.loop-i.invariant.value ∙ ap (λ (k : ℕ). little_endian (drop k part)) none;
-      bounded = subst (λ (k : ℕ). c.loop-i.number < 256 ^ k) all c.loop-i.invariant.below;
-    }
+    let bytes = part c.args.file.now c.args.at g.row.WIDTH c.requires.inside in
+    let t =
+    YieldsList-end (YieldsList-from_rev_slice bytes (cc)) c.loop-byte.yielded _ c.loop-byte.yielded_by _ _
+    c.in-None.is c.next.ensures.steps in
+    let read = all_read c.args.file.now c.args.at g.row.WIDTH c.requires.inside c.loop-byte.number
+    (length c.loop-byte.yielded) c.loop-byte.invariant t.1 in
+    record { result = read.0; bounded = read.1 }
