@@ -120,7 +120,8 @@ fn later_refusal(count: usize, assumed: &[u16], names: &[u8], goal: usize) -> Re
     Ok(())
 }
 
-// 1 to 5, in that order.
+// 1 to 5, in that order. No struct holds what is lent: `prove::prove` keeps its separate slices, which are its public contract, and lends
+// them on.
 pub fn test_claim(
     words: &[u32],
     count: usize,

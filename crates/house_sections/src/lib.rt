@@ -88,6 +88,8 @@ pub fn test_file(file: &[u8]) -> Option<Sections>
     })
 }
 
+// The three that fill a lent array take a place and a count, not `Sections`: what they promise is for every place where so many stand. They
+// write by the index, since of elements written through `iter_mut` a proof knows nothing afterwards.
 // The words of the formulas, at the front of a lent array.
 pub fn fill_words(file: &[u8], count: usize, words: &mut [u32])
     requires section { 2 + 4 * count ≤ length file.now }
