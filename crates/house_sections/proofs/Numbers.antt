@@ -3,7 +3,7 @@ use Prim.Native.Nat.{ℕ, suc, ◌+◌, ◌-◌, ◌*◌, ◌^◌, ◌≤◌, �
 use mathlib.Core.Path.{◌≡◌, sym, ap, ap₂, ◌∙◌, subst}
 use mathlib.Core.List.{List, reverse}
 use native.Mathlib.Omega.{arith}
-use native.Mathlib.Nat.{pow-succ'}
+use native.Mathlib.Nat.{le_trans, pow-le-pow_right, pow-succ'}
 use lib.ListN.{length, get_or, take, drop, drop_of_length-le}
 use lib.Seq.{length-take-le, drop-cons, get_or-take, get_or-drop}
 use lib.ListN.{length-drop}
@@ -81,3 +81,9 @@ module _ (bs : List ℕ) (at width : ℕ) (fits : at + width ≤ length bs) wher
         r.value ∙ ap (λ (k : ℕ). little_endian (drop k (take width (drop at bs)))) none,
         subst (λ (k : ℕ). number < 256 ^ k) all r.below,
       )
+
+-- a number of at most four bytes has at most 32 bits
+pub in_four : {bs : List ℕ} {at width number left : ℕ} → Read bs at width number left → width ≤ 4 → number < 4294967296
+in_four {width} {left} r h =
+    let few : width - left ≤ 4 = omega arith in
+    le_trans r.below (pow-le-pow_right {n = 256} (omega arith) few)

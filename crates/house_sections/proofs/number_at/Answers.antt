@@ -6,7 +6,7 @@ use lib.ListN.{length}
 use Rattle.std.proofs.lemmas.Iterator.Adapters.{YieldsList-from_rev_slice}
 use Rattle.std.proofs.lemmas.Iterator.Consumers.{YieldsList-turn, YieldsList-end}
 use Rattle.std.proofs.lemmas.List.{length_push}
-use Rattle.house_sections.proofs.Numbers.{Read, part, none_read, last_read, all_read}
+use Rattle.house_sections.proofs.Numbers.{Read, part, none_read, last_read, all_read, in_four}
 use Rattle.house_sections.proofs.number_at.Goals as goal
 
 pub loop-byte-init : goal.loop-byte-init
@@ -14,6 +14,12 @@ loop-byte-init g c =
     let none : g.row.WIDTH ≡ g.row.WIDTH - 0 = omega arith in
     subst (λ (k : ℕ). Read c.args.file.now c.args.at g.row.WIDTH 0 k) none
     (none_read c.args.file.now c.args.at g.row.WIDTH c.requires.inside)
+
+pub overflow_mul-number : goal.overflow_mul-number
+overflow_mul-number g c = omega (arith, in_four c.loop-byte.invariant c.requires.narrow)
+
+pub overflow_add-number : goal.overflow_add-number
+overflow_add-number g c = omega (arith, in_four c.loop-byte.invariant c.requires.narrow)
 
 pub loop-byte-preserved : goal.loop-byte-preserved
 loop-byte-preserved g c =
