@@ -14,7 +14,7 @@ use Rattle.theory.proofs.Forms.{snoc_length}
 use Rattle.theory.proofs.Entries.{cut_splits}
 use Rattle.theory.proofs.LawfulNames.{joined, names_joined, joined_snoc, bad_cut, bad_unlawful, bad_later}
 use Rattle.identifier_generator.specs.Entry.{entry_size}
-use Rattle.identifier_generator.proofs.Cursor.{none_at, end_inside, bytes_at, entry_at, size_at}
+use Rattle.identifier_generator.proofs.Cursor.{some_at, none_at, end_inside, bytes_at, entry_at, size_at}
 
 -- the front of the text up to `at` is `place` lawful names, so the test goes on with the rest
 pub record Passed (text : List ℕ) (count at place : ℕ) : Type 0 where
@@ -109,3 +109,6 @@ module _ {text : List ℕ} {count at place : ℕ} (p : Passed text count at plac
                 ∙ bad_later (names_in (take at text)) (count - (place + 1)) (drop at text) (next_name, drop (at + s) text) cut_is (sym f)
                 ∙ ap (λ (names : List (List ℕ)). bad_name_from names (count - (place + 1)) (drop (at + s) text)) (sym names_more);
           }
+
+-- what the check goes by in that walk
+pub ruleset name_steps = (surplus, all_passed, cut_fault, unlawful_fault, some_at, end_inside)

@@ -20,6 +20,7 @@ use Rattle.formula.specs.Kinds.{kind_named}
 use Rattle.formula.specs.Leaves.{leaf_kind}
 use Rattle.formula.proofs.LeafWords.{is_leaf_kind, leaf_kinds, leaf_of_laid}
 use Rattle.refusal.specs.Marks.{mark_of, bits_at, byte_of, shift_of, mark_at, marked, follows, agrees, noted}
+use Rattle.refusal.proofs.Walks.{onward_starts, onward_ends, onward_bad, onward_good, given}
 use Rattle.refusal.proofs.MarkBits.{put_here, put_beside}
 use Rattle.refusal.proofs.MarkLaws.{mark_small, no_leaf, of_leaf, first_time, stood_before}
 
@@ -211,3 +212,6 @@ module _ (f : List ℕ) (i : ℕ) (inside : i < length f) where
     goes_on e =
         subst (Noted (noted ms (get_or f i 0))) (sym (ap (λ (n : ℕ). take n f) (add-one i) ∙ take-suc f i 0 inside))
         (noted_next ms (take i f) i (get_or f i 0) known (subst T (sym laid) tt) e)
+
+-- what the check goes by in the walk over the words
+pub ruleset word_steps = (onward_starts, onward_ends, onward_bad, onward_good, given, none_noted, broken, decides, goes_on)

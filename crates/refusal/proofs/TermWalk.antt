@@ -7,7 +7,7 @@ use mathlib.Core.List.{List}
 use native.Mathlib.Numerals.{add-one}
 use native.Mathlib.Omega.{arith}
 use Rattle.theory.specs.Layout.{lawful_node, bad_node_from}
-use Rattle.theory.proofs.LawfulNodes.{next_node}
+use Rattle.theory.proofs.LawfulNodes.{next_node, node_refused, root_refused, term_passes}
 
 module _ (names : List (List ℕ)) (count : ℕ) (t : List ℕ) (nodes i : ℕ) where
   -- a node that keeps the layout is passed over
@@ -32,3 +32,6 @@ module _ (names : List (List ℕ)) (count : ℕ) (t : List ℕ) (nodes i : ℕ) 
   walk_ends h =
       let left : nodes - i ≡ 0 = omega arith in
       ap (bad_node_from names count t i) left
+
+-- what the check goes by in that walk
+pub ruleset term_steps = (walk_on, walk_stops, walk_ends, node_refused, root_refused, term_passes)

@@ -1,5 +1,5 @@
 -- The lowest bad place, found by looking from the front: one law a turn and one for each way out. Assumes nothing.
-use Prim.Native.Nat.{ℕ, suc, ◌+◌, ◌≤◌, ◌<◌}
+use Prim.Native.Nat.{ℕ, suc, ◌+◌, ◌≤◌, ◌<◌, min}
 use mathlib.Core.Path.{◌≡◌, refl, ap, ◌∙◌}
 use mathlib.Core.Bool.{Bool, true, false}
 use mathlib.Core.Option.{Option, none, some}
@@ -11,6 +11,7 @@ use lib.Seq.{take-suc, drop-cons, length-take-le}
 use lib.Dec.{ltb, leb}
 use borrow.Author.Tests.{ltb-true, ltb-false, le-leb, lt-leb}
 use Rattle.std.specs.List.{position_from}
+use Rattle.std.proofs.lemmas.List.{take_min}
 use Rattle.theory.specs.Form.{good_word, bad_from, bad_word}
 use Rattle.theory.specs.Refusal.{outside_from}
 use Rattle.refusal.specs.Answers.{option_of}
@@ -47,6 +48,10 @@ module _ (f : List ℕ) (i : ℕ) where
     onward_good e =
         ap (bad_from (take i f)) (drop-cons f i 0 inside) ∙ good_here (take i f) (drop (suc i) f) (get_or f i 0) e
         ∙ rw (add-one, ← take-suc f i 0 inside)
+
+-- the words that are looked at are those that count
+pub given : (f : List ℕ) (count n : ℕ) {o : Option ℕ} → n ≡ min count (length f) → o ≡ bad_word (take n f) → o ≡ bad_word (take count f)
+given f count n e h = h ∙ ap (λ (k : ℕ). bad_word (take k f)) e ∙ ap bad_word (take_min count f)
 
 -- the first assumption from index i on that is not below the count, as the library's search finds it
 pub outside_found : (count i : ℕ) (hs : List ℕ) → option_of (position_from (λ a. leb count a) i hs) ≡ outside_from count i hs

@@ -118,6 +118,7 @@ pub fn work_sizes(records: usize, steps: usize) -> bool
 
 // 2: the lowest of the first `count` words that breaks the layout, or whose leaf symbol stands at a lower index under another leaf kind;
 // a slice that ends before the count is looked at whole.
+#[tactic(auto, using(crate::proofs::Noted::word_steps))]
 pub fn bad_word(words: &[u32], count: usize) -> Option<usize>
     ensures { option_of result ≡ bad_word (take count words.now) }
 {
@@ -164,6 +165,7 @@ pub fn bad_assumption(assumed: &[u16], count: usize) -> Option<usize>
 }
 
 // 4: the first faulty name of a text that is to hold `count` names; surplus text faults at the count.
+#[tactic(auto, using(crate::proofs::NameWalk::name_steps))]
 pub fn bad_name(text: &[u8], count: usize) -> Option<usize>
     ensures { option_of result ≡ bad_name count text.now }
 {
@@ -191,6 +193,7 @@ pub fn bad_goal(count: usize, goal: usize) -> Option<usize>
 
 // 13: the lowest of the given nodes that breaks the layout, or the node count for a root not below it. Names are judged by the assumptions'
 // text. For callers that have tested the sizes, as 1 comes before.
+#[tactic(auto, using(crate::proofs::TermWalk::term_steps))]
 pub fn bad_term(
     terms: &[u16],
     nodes: usize,
