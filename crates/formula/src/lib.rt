@@ -72,7 +72,7 @@ pub fn word(words: &[u32], i: usize) -> u32
     words.get(i).copied().unwrap_or(0)
 }
 
-// The word at i becomes x; nothing changes out of range.
+// The word at i becomes x; nothing changes out of range. By its index: after a borrow by `get_mut` nothing is known of the others.
 pub fn store(words: &mut [u32], i: usize, x: u32)
     ensures { words.new ≡ set words.old i x }
 {
@@ -81,7 +81,7 @@ pub fn store(words: &mut [u32], i: usize, x: u32)
     }
 }
 
-// The words from `from` on become 0.
+// The words from `from` on become 0. `proof_term::clear` does so for numbers: no crate with code lies under both.
 pub fn clear(words: &mut [u32], from: usize)
     ensures { words.new ≡ padded (length words.old) (take from words.old) }
 {

@@ -127,6 +127,7 @@ impl State {
     }
 
     // Whether the limits let a charge through that comes to these indices, fills, records and this level; else the first that it passes.
+    // Each charge has its own five numbers: a struct of them would be made at the call and taken apart here.
     pub fn charge(
         self,
         limits: Limits,

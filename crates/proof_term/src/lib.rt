@@ -153,7 +153,7 @@ pub fn put(terms: &mut [u16], n: usize, node: Node)
     put_numbers(terms, n, node.numbers());
 }
 
-// The numbers from `from` on become 0.
+// The numbers from `from` on become 0. `formula::clear` does so for words: no crate with code lies under both.
 #[tactic(auto, unfolding(theory::specs::NameText::padded))]
 pub fn clear(terms: &mut [u16], from: usize)
     ensures { terms.new ≡ padded (length terms.old) (take from terms.old) }
