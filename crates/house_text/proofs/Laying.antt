@@ -25,7 +25,7 @@ pub front_at : (b : List ℕ) (at : ℕ) → at ≤ length b → front_of b at �
 unfolding front_of
 front_at b at h = rw (le-leb at (length b) h, front_of)
 
-pub no_front : (b : List ℕ) (at : ℕ) → length b < at → front_of b at ≡ none
+no_front : (b : List ℕ) (at : ℕ) → length b < at → front_of b at ≡ none
 unfolding front_of
 no_front b at h = rw (lt-leb at (length b) h, front_of)
 

@@ -248,14 +248,7 @@ module _ {words terms : List ℕ} {i k : ℕ} (n : NodeRead words terms i k) whe
           (sym none_left)
           ∙ rest_piece z 5
 
--- what is known of a field is known of the one that the match found, at the number that was read
-pub field_told : (m n : ℕ) {x y : ℕ} {f h : declared_field.Field} → f ≡ h → x ≡ y → FieldIn m n (field_as f) y → FieldIn m n (field_as h) x
-field_told m n {x} {y} {f} {h} e r g =
-    subst (λ (k : declared_field.Field). FieldIn m n (field_as k) x) e (subst (FieldIn m n (field_as f)) (sym r) g)
-
-pub weight_told : {x y : ℕ} {f h : declared_field.Field} → f ≡ h → x ≡ y → weight (field_as h) x ≡ weight (field_as f) y
-weight_told e r = ap₂ (λ (k : declared_field.Field) (n : ℕ). weight (field_as k) n) (sym e) r
-
+-- the piece of the field that the match found, at the number that was read
 pub piece_told : (words terms : List ℕ) (names : List (List ℕ)) (levels : ℕ) {x y : ℕ} {f h : declared_field.Field} → f ≡ h → x ≡ y →
     field_piece words terms names levels (field_as h) x ≡ field_piece words terms names levels (field_as f) y
 piece_told words terms names levels e r =

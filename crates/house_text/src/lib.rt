@@ -35,6 +35,7 @@ pub struct Draft<'a> {
 }
 
 // Each function that lays a piece returns the next place; there is none where the text has no room, and then nothing more is laid.
+
 // The bytes of a text. For the program's lines too.
 pub fn lay(buf: &mut [u8], at: usize, text: &[u8]) -> Option<usize>
     ensures { Laid (some text.now) buf.old at buf.new result }

@@ -25,7 +25,7 @@ byte_is b = go (is_in_range 48 57 b) (is_in_range 65 90 b) (is_in_range 97 122 b
     go false false true mark = refl
     go false false false mark = refl
 
-pub all_bytes : (name : List ℕ) → list_all name_byte name ≡ name_bytes name
+all_bytes : (name : List ℕ) → list_all name_byte name ≡ name_bytes name
 unfolding name_bytes
 all_bytes [] = refl
 all_bytes (b ∷ bs) = ap (λ (t : Bool). name_byte b && t) (all_bytes bs)

@@ -1,6 +1,6 @@
 -- A buffer that is filled one byte after the other. Assumes nothing.
 use Prim.Native.Nat.{ℕ, ◌+◌, ◌≤◌, ◌<◌}
-use mathlib.Core.Path.{◌≡◌, refl, sym, ap, ◌∙◌}
+use mathlib.Core.Path.{◌≡◌, sym, ap, ◌∙◌}
 use mathlib.Core.List.{List}
 use mathlib.Core.Logic.{◌⊎◌, ⊎_elim}
 use native.Mathlib.Nat.{eq-or-lt_of_le}
@@ -12,9 +12,6 @@ use lib.Seq.{get_or-set_same, get_or-set_other, ext_get_or}
 pub record Filled (wanted : List ℕ) (room j : ℕ) (buf : List ℕ) : Type 0 where
   pub long : length buf ≡ room
   pub bytes : (k : ℕ) → k < j → get_or buf k 0 ≡ get_or wanted k 0
-
-pub none_filled : (wanted buf : List ℕ) → Filled wanted (length buf) 0 buf
-none_filled wanted buf = record { long = refl; bytes = λ k h. absurd (omega arith) }
 
 pub byte_filled : (wanted buf : List ℕ) (room j v : ℕ) → Filled wanted room j buf → j < room → v ≡ get_or wanted j 0 →
     Filled wanted room (j + 1) (set buf j v)

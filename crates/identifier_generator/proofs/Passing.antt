@@ -12,7 +12,7 @@ use Rattle.theory.specs.Names.{same, among, skipped}
 use Rattle.theory.proofs.Entries.{skipped_found, skipped_free}
 
 -- the library's `==` on bytes
-pub pointwise_same : (a b : List ℕ) → pointwise eqb a b ≡ same a b
+pointwise_same : (a b : List ℕ) → pointwise eqb a b ≡ same a b
 unfolding same
 pointwise_same [] [] = refl
 pointwise_same [] (y ∷ ys) = refl
@@ -20,7 +20,7 @@ pointwise_same (x ∷ xs) [] = refl
 pointwise_same (x ∷ xs) (y ∷ ys) = ap (λ (t : Bool). eqb x y && t) (pointwise_same xs ys)
 
 -- some name is the same as x
-pub any_among : (x : List ℕ) (names : List (List ℕ)) → list_any (same x) names ≡ among x names
+any_among : (x : List ℕ) (names : List (List ℕ)) → list_any (same x) names ≡ among x names
 unfolding among
 any_among x [] = refl
 any_among x (y ∷ ys) = ap (λ (t : Bool). same x y || t) (any_among x ys)

@@ -86,12 +86,6 @@ module _ (text : List ℕ) (s : ℕ) (e : Some s ≡ entry_size text) where
       rw (take_all (length text - s) (drop s text) (omega (arith, length-drop s text)))
       (names_next text (take (s - 1) (drop 1 text), drop s text) (first_entry text s e))
 
-  -- and the rest is shorter
-  pub rest_shorter : length (take (length text - s) (drop s text)) < length text
-  rest_shorter =
-      rw (take_all (length text - s) (drop s text) (omega (arith, length-drop s text)))
-      (omega (arith, length-drop s text, size_within, size_positive))
-
-  -- and has a name less
+  -- and the rest has a name less
   pub rest_fewer : length (names_in (take (length text - s) (drop s text))) < length (names_in text)
   rest_fewer = omega (arith, ap length names_cut)

@@ -1,13 +1,8 @@
 -- `proved` lays its lines and clears the rest. Assumes nothing.
 use mathlib.Core.Path.{◌∙◌}
 use Rattle.theory.specs.File.{proved_with}
-use Rattle.house_lines.proofs.Filling.{end_inside, end_is_size, filled}
+use Rattle.house_lines.proofs.Filling.{end_is_size, filled}
 use Rattle.house_lines.proofs.proved.Goals as goal
-
-pub close-requires : goal.close-requires
-close-requires c =
-    let args = c.args in
-    end_inside (proved_with args.steps args.names args.formulas args.terms args.text.now) c.lay_proved-end.ensures c.requires.room
 
 pub returns : goal.returns
 returns c =

@@ -2,14 +2,8 @@
 use mathlib.Core.Path.{◌∙◌}
 use Rattle.theory.specs.Text.{bytes}
 use Rattle.theory.specs.File.{refused_line}
-use Rattle.house_lines.proofs.Filling.{end_inside, end_is_size, filled}
+use Rattle.house_lines.proofs.Filling.{end_is_size, filled}
 use Rattle.house_lines.proofs.refused.Goals as goal
-
-pub close-requires : goal.close-requires
-unfolding refused_line bytes
-close-requires c =
-    let args = c.args in
-    end_inside (refused_line args.number) c.lay_counted-end.ensures c.requires.room
 
 pub returns : goal.returns
 unfolding refused_line bytes

@@ -1,13 +1,8 @@
 -- `unprovable` lays its lines and clears the rest. Assumes nothing.
 use mathlib.Core.Path.{◌∙◌}
 use Rattle.theory.specs.File.{unprovable_lines}
-use Rattle.house_lines.proofs.Filling.{end_inside, end_is_size, filled}
+use Rattle.house_lines.proofs.Filling.{end_is_size, filled}
 use Rattle.house_lines.proofs.unprovable.Goals as goal
-
-pub close-requires : goal.close-requires
-close-requires c =
-    let args = c.args in
-    end_inside (unprovable_lines args.steps) c.lay_unprovable-end.ensures c.requires.room
 
 pub returns : goal.returns
 returns c =

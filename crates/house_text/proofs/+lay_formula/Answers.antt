@@ -38,10 +38,6 @@ returns-in-False t c =
     laid_as (false_piece (word_read c.requires.good c.requires.inside refl c.left_at-left.ensures) c.args.levels
     c.if-levels-eq0.false c.in-False.ensures) c.lay-in-False.ensures
 
-pub lay_leaf-requires : goal.lay_leaf-requires
-lay_leaf-requires t c =
-    omega (arith, c.left_at-left.ensures)
-
 pub returns-in-Atom : goal.returns-in-Atom
 returns-in-Atom t c =
     laid_as (leaf_piece (word_read c.requires.good c.requires.inside refl c.left_at-left.ensures) c.args.levels

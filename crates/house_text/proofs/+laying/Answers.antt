@@ -1,41 +1,18 @@
 -- `lay_field` lays a field of a node by what it holds, `lay_term` a node by its keyword and its fields. Assumes nothing.
-use Prim.Native.Nat.{◌+◌, ◌/◌}
+use Prim.Native.Nat.{◌+◌}
 use mathlib.Core.Path.{ap, ◌∙◌}
 use mathlib.Core.Option.{some}
 use native.Mathlib.Omega.{arith}
-use lib.ListN.{length}
 use Rattle.theory.specs.Names.{bytes_of}
 use Rattle.theory.specs.NameText.{names_in}
-use Rattle.theory.specs.Layout.{node_width}
 use Rattle.theory.specs.Text.{bytes}
 use Rattle.house_text.specs.Laid.{joined}
 use Rattle.house_text.specs.Pieces.{field_piece}
 use Rattle.house_text.proofs.Laying.{laid_as, laid_then, laid_stops, laid_nothing, laid_none}
 use Rattle.house_text.proofs.NodePieces.{no_term, front_piece}
-use Rattle.house_text.proofs.Nodes.{field_told, weight_told, piece_told}
+use Rattle.house_text.proofs.Nodes.{piece_told}
 use Rattle.house_text.proofs.Nodes.{node_read, field_below, refused_piece, name_piece, rest_piece, field_next, last_piece}
 use Rattle.house_text.proofs.+laying.Goals as goal
-
-pub lay_field-lay_term-requires : goal.lay_field-lay_term-requires
-lay_field-lay_term-requires t c =
-    let d = c.args.draft in
-    let m = length d.words.now in
-    let n = length d.terms.now / node_width in
-    let child = c.in-Child.is in
-    let x = c.number-x.ensures in (
-      omega (arith, weight_told child x, c.decreases),
-      (c.requires.given, field_told m n child x c.requires.field),
-    )
-
-pub lay_field-lay_formula-requires : goal.lay_field-lay_formula-requires
-lay_field-lay_formula-requires t c =
-    let d = c.args.draft in
-    let m = length d.words.now in
-    let n = length d.terms.now / node_width in
-    let told = field_told m n c.in-Formula.is c.number-x.ensures c.requires.field in record {
-      good = c.requires.given.formulas;
-      inside = told;
-    }
 
 pub lay_field-returns-in-Unused : goal.lay_field-returns-in-Unused
 unfolding field_piece

@@ -4,7 +4,7 @@ use mathlib.Core.Option.{some}
 use mathlib.Core.List.{[], ◌∷◌}
 use native.Mathlib.Omega.{arith}
 use Rattle.theory.specs.Names.{spell}
-use Rattle.house_text.proofs.Laying.{laid_nothing, laid_as, laid_next, laid_short, laid_whole}
+use Rattle.house_text.proofs.Laying.{laid_nothing, laid_as, laid_next, laid_short}
 use Rattle.house_text.proofs.lay_generated.Goals as goal
 
 pub loop-j-init : goal.loop-j-init
@@ -22,7 +22,3 @@ loop-j-preserved c =
     let turn = c.loop-j in
     let byte = laid_as (ap (λ b. some (b ∷ [])) c.letter.ensures) c.in_ok-next.ensures in
     laid_next (spell c.args.g) turn.j turn.invariant (omega (arith, c.letter_count-j-end.ensures)) byte
-
-pub returns : goal.returns
-returns c =
-    laid_whole (spell c.args.g) c.loop-j.j c.loop-j.invariant (omega (arith, c.letter_count-j-end.ensures))

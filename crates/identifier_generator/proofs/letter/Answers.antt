@@ -2,14 +2,8 @@
 use Prim.Native.Nat.{ℕ, suc, ◌+◌, ◌-◌, ◌/◌}
 use mathlib.Core.Path.{◌≡◌, sym, ap, ◌∙◌}
 use native.Mathlib.Omega.{arith}
-use lib.ListN.{get_or-eq_default}
-use Rattle.theory.specs.Names.{spell}
 use Rattle.theory.proofs.Spelling.{spell_length, spell_letter}
 use Rattle.identifier_generator.proofs.letter.Goals as goal
-
-pub returns-then-count-j : goal.returns-then-count-j
-returns-then-count-j c =
-    sym (get_or-eq_default (spell c.args.i) 0 (omega arith))
 
 pub returns : goal.returns
 returns c =

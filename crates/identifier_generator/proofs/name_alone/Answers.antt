@@ -1,15 +1,9 @@
 -- `name_alone` hands the written front back. Assumes nothing.
 use mathlib.Core.Path.{refl}
 use lib.ListN.{length}
-use Rattle.std.proofs.Common.{rules}
 use Rattle.theory.proofs.Fitted.{alone_front}
 use Rattle.identifier_generator.proofs.Handing.{front_is_part, part_inside}
 use Rattle.identifier_generator.proofs.name_alone.Goals as goal
-
-pub returns-in_err-n : goal.returns-in_err-n
-returns-in_err-n c =
-    let refused = c.in_err-n.ensures.number_is in
-    search rules
 
 pub slice_bounds-result-end : goal.slice_bounds-result-end
 slice_bounds-result-end c =

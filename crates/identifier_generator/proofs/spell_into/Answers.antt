@@ -4,23 +4,15 @@ use native.Mathlib.Omega.{arith}
 use lib.ListN.{length}
 use Rattle.theory.specs.Names.{spell}
 use Rattle.theory.specs.NameText.{padded}
-use Rattle.identifier_generator.proofs.Filling.{none_filled, byte_filled, all_filled}
+use Rattle.identifier_generator.proofs.Filling.{byte_filled, all_filled}
 use Rattle.theory.proofs.Fitted.{padded_byte, padded_length}
 use Rattle.identifier_generator.proofs.spell_into.Goals as goal
-
-pub loop-j-init : goal.loop-j-init
-loop-j-init c =
-    none_filled (padded (length c.args.buf.now) (spell c.args.i)) c.args.buf.now
 
 pub loop-j-preserved : goal.loop-j-preserved
 loop-j-preserved c =
     let room = length c.args.buf.now in
     byte_filled (padded room (spell c.args.i)) c.loop-j.buf room c.loop-j.j c.letter.result c.loop-j.invariant
     (omega arith) (c.letter.ensures ∙ sym (padded_byte (spell c.args.i) room c.loop-j.j))
-
-pub shape_of-buf : goal.shape_of-buf
-shape_of-buf c =
-    c.loop-j.invariant.long
 
 pub returns : goal.returns
 returns c =
