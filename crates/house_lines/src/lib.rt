@@ -71,6 +71,7 @@ pub fn unprovable(out: &mut [u8], steps: usize) -> usize
 }
 
 // The six lines of a proved goal, the last of which is the text of its term.
+// The four counts stay apart: a struct would be put together by the one caller and taken apart here, which is no plainer.
 fn lay_proved(
     out: &mut [u8],
     at: usize,

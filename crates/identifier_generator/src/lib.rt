@@ -136,6 +136,7 @@ pub fn lawful(name: &[u8], earlier: &[u8]) -> bool
 }
 
 // From where to where the bytes of entry `k` of `text` stand, if no entry up to it is cut or missing.
+// By places and not over `Names`: the promise of `name` says where its part starts.
 fn find_entry(text: &[u8], k: usize) -> Option<(usize, usize)>
     ensures { result ≡ entry_from 0 k text.now }
 {
