@@ -142,6 +142,7 @@ pub fn put_numbers(terms: &mut [u16], n: usize, numbers: [usize; WIDTH])
 {
     if n < terms.len() / WIDTH {
         let at = n * WIDTH;
+        // `as` stays: the low 16 bits are meant, and `From` and `TryFrom` cut no number down
         terms[at..at + WIDTH].copy_from_slice(&numbers.map(|x| (x % 65536) as u16));
     }
 }
