@@ -77,9 +77,9 @@ module _ (words terms : List ℕ) (names : List (List ℕ)) where
     shown (some fs) [] = some (bytes_of names a)
     shown (some fs) (x ∷ w) = joined (some (x ∷ w)) (fields_piece l fs (a ∷ b ∷ c ∷ d ∷ e ∷ []))
 
-    pub shown_fields : (fs : List Field) (w : List ℕ) → (w ≡ [] → ⊥) →
+    pub shown_fields : (fs : List Field) (w : List ℕ) → 0 < length w →
         joined (some w) (fields_piece l fs (a ∷ b ∷ c ∷ d ∷ e ∷ [])) ≡ shown (some fs) w
-    shown_fields fs [] n = absurd (n refl)
+    shown_fields fs [] n = absurd (omega arith)
     shown_fields fs (x ∷ w) n = refl
 
     -- a child, and a formula, behind a space

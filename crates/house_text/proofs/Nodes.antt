@@ -13,11 +13,11 @@ use Rattle.theory.specs.Text.{bytes}
 use Rattle.theory.proofs.TextByNode.{piece_text, piece_depth, text_by_node, depth_by_node, node_at, node_in}
 use Rattle.std.proofs.Common.{Some, None}
 use Rattle.std.proofs.Common as std
+use Rattle.std.proofs.lemmas.List.{nil_from_length}
 use Rattle.proof_term.specs.declared.Field as declared_field
 use Rattle.proof_term.specs.declared.Field.TheVariants.{Name}
 use Rattle.proof_term.specs.declared.Fields.{Fields}
-use Rattle.proof_term.specs.Kinds.{field_as, fields_as, keyword, word, word_as, Settles}
-use Rattle.proof_term.proofs.KindLaws.{no_word, some_word, word_inside}
+use Rattle.proof_term.specs.Kinds.{field_as, fields_as, keyword, keyword_as, Settles}
 use Rattle.house_text.specs.Laid.{joined}
 use Rattle.house_text.specs.Pieces.{up_to, book, nodes, Given, FieldIn, term_piece, field_piece}
 use Rattle.house_text.proofs.Levels.{Whole}
@@ -206,25 +206,24 @@ module _ {words terms : List ℕ} {i k : ℕ} (n : NodeRead words terms i k) whe
 
     module _ {r : std.Option Fields} {f : Fields} (h : Settles r k) (s : r ≡ Some f) where
       -- an Ident, which has no keyword
-      pub name_piece : f.start ≡ f.end → some (bytes_of names (number_at terms i 1)) ≡ term_piece words terms names levels i
+      pub name_piece : length f.keyword.now ≡ 0 → some (bytes_of names (number_at terms i 1)) ≡ term_piece words terms names levels i
       name_piece z =
           decided_piece (some (layout_of f)) [] (sym h.layout ∙ ap fields_as s)
-          (sym h.printing ∙ ap word_as s ∙ no_word f.start f.end z)
+          (sym h.printing ∙ ap keyword_as s ∙ nil_from_length f.keyword.now z)
 
       -- any other kind: its keyword and the pieces of its first fields, and the others behind them
       abbrev pub laid_front : ℕ → Option (List ℕ)
-      laid_front j = front_piece words terms names (levels - 1) (some (word f.start f.end)) (layout_of f) (numbers_of terms i) j
+      laid_front j = front_piece words terms names (levels - 1) (some f.keyword.now) (layout_of f) (numbers_of terms i) j
 
-      pub rest_piece : (f.start ≡ f.end → ⊥) → (j : ℕ) →
+      pub rest_piece : 0 < length f.keyword.now → (j : ℕ) →
           joined (laid_front j) (fields_piece words terms names (levels - 1) (drop j (layout_of f)) (drop j (numbers_of terms i))) ≡
           term_piece words terms names levels i
       rest_piece z j =
-          front_rest words terms names (levels - 1) j (some (word f.start f.end)) (layout_of f) (numbers_of terms i)
+          front_rest words terms names (levels - 1) j (some f.keyword.now) (layout_of f) (numbers_of terms i)
           (omega (arith, layout_five h s))
           ∙ shown_fields words terms names (levels - 1) (number_at terms i 1) (number_at terms i 2) (number_at terms i 3)
-          (number_at terms i 4) (number_at terms i 5) (layout_of f) (word f.start f.end)
-          (some_word f.start f.end (word_inside h s) z)
-          ∙ decided_piece (some (layout_of f)) (word f.start f.end) (sym h.layout ∙ ap fields_as s) (sym h.printing ∙ ap word_as s)
+          (number_at terms i 4) (number_at terms i 5) (layout_of f) f.keyword.now z
+          ∙ decided_piece (some (layout_of f)) f.keyword.now (sym h.layout ∙ ap fields_as s) (sym h.printing ∙ ap keyword_as s)
 
       -- one field more
       pub field_next : (j : ℕ) → j < 5 →
@@ -233,12 +232,12 @@ module _ {words terms : List ℕ} {i k : ℕ} (n : NodeRead words terms i k) whe
       field_next j l =
           ap₂ (λ (w : Field) (x : ℕ). joined (laid_front j) (field_piece words terms names (levels - 1) w x))
           (sym (get_or-map field_as f.held j Name)) (sym (number_is terms i j l))
-          ∙ sym (front_next words terms names (levels - 1) j (some (word f.start f.end)) (layout_of f) (numbers_of terms i)
+          ∙ sym (front_next words terms names (levels - 1) j (some f.keyword.now) (layout_of f) (numbers_of terms i)
           (omega (arith, layout_five h s)) (omega arith))
           ∙ ap laid_front (sym (add-one j))
 
       -- the bracket behind all of them
-      pub last_piece : (f.start ≡ f.end → ⊥) → (j : ℕ) → j ≡ 5 →
+      pub last_piece : 0 < length f.keyword.now → (j : ℕ) → j ≡ 5 →
           joined (laid_front j) (some (bytes ")")) ≡ term_piece words terms names levels i
       last_piece z j e =
           let few : length (layout_of f) ≤ 5 = omega (arith, layout_five h s) in

@@ -173,10 +173,10 @@ fn lay_term(buf: &mut [u8], at: usize, draft: Draft, i: usize, levels: usize) ->
         return lay(buf, at, b"()");
     };
     // an Ident has no keyword: its name stands alone
-    if fields.start == fields.end {
+    if fields.keyword.is_empty() {
         return lay_name(buf, at, draft.names, number(draft.terms, node + 1));
     }
-    let mut next = lay(buf, at, &proof_term::KEYWORDS[fields.start..fields.end])?;
+    let mut next = lay(buf, at, fields.keyword)?;
     for j in 0..5 {
         next = lay_field(buf, next, draft, fields.held[j], node + 1 + j, levels - 1)?;
     }

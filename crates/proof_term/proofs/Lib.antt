@@ -1,5 +1,4 @@
 pub mod Sums
-pub mod KindLaws
 pub mod PutLaws
 pub mod NodeLaws
 pub mod FieldLaws

@@ -1,5 +1,5 @@
 -- The code's kinds, fields and keywords as the definitions have them. Assumes nothing.
-use Rattle.std.specs.Prelude.{ℕ, ◌-◌, ◌≤◌, ◌≡◌, List, [], ◌∷◌, map, get_or, take, drop, Some, None}
+use Rattle.std.specs.Prelude.{ℕ, ◌≡◌, List, [], ◌∷◌, map, get_or, Some, None}
 use Rattle.std.specs.declared.option.Option as code
 use Rattle.std.proofs.Math.Option.{Option, none, some}
 use Rattle.theory.specs.Term.{Piece, ident, pair, fst, snd, fn, app, inl, inr, case, abort, asc, unit}
@@ -49,23 +49,12 @@ keywords =
 unfoldable pub keyword : ℕ → List ℕ
 keyword k = get_or keywords k []
 
--- the code's keywords one behind another, and what stands between two places of them
-abbrev pub row : List ℕ
-row = bytes "(pair(fst(snd(fn(app(inl(inr(case(abort(as"
-
-abbrev pub word : ℕ → ℕ → List ℕ
-word start end = take (end - start) (drop start row)
-
-abbrev pub word_as : code.Option Fields → List ℕ
-word_as (Some f) = word f.start f.end
-word_as None = []
-
-abbrev pub WordIn : code.Option Fields → Type 0
-WordIn (Some f) = (f.start ≤ f.end) × (f.end ≤ 42)
-WordIn None = Unit {0}
+-- the keyword that the code gives; a kind that is refused has none
+abbrev pub keyword_as : code.Option Fields → List ℕ
+keyword_as (Some f) = f.keyword.now
+keyword_as None = []
 
 -- "one decision over kind numbers 0 to 13 .. settles layout checking and printing"
 pub record Settles (r : code.Option Fields) (kind : ℕ) : Type 0 where
   pub layout : fields_as r ≡ fields_of kind
-  pub printing : word_as r ≡ keyword kind
-  pub inside : WordIn r
+  pub printing : keyword_as r ≡ keyword kind

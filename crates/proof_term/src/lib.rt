@@ -39,9 +39,6 @@ const ASCRIPTION: usize = 11;
 
 const UNIT: usize = 12;
 
-// The keywords of the house text one behind another, each with its bracket; a Unit's is the first bracket alone.
-pub const KEYWORDS: [u8; 42] = *b"(pair(fst(snd(fn(app(inl(inr(case(abort(as";
-
 // A node: the nodes below it by their places, names by their numbers, a formula by its index.
 #[derive(Clone, Copy, PartialEq, Eq)]
 pub enum Node {
@@ -98,9 +95,8 @@ pub enum Field {
 // How a kind is printed and what its fields hold.
 #[derive(Clone, Copy)]
 pub struct Fields {
-    // where the keyword starts and ends in `KEYWORDS`. An Ident has no keyword: its name stands alone
-    pub start: usize,
-    pub end: usize,
+    // with its bracket; a Unit's is the bracket alone. An Ident has none: its name stands alone
+    pub keyword: &'static [u8],
     // the five, first to last
     pub held: [Field; 5],
 }
@@ -111,22 +107,22 @@ pub struct Fields {
 pub fn fields_of(kind: usize) -> Option<Fields>
     ensures { Settles result kind }
 {
-    let (start, end, held) = match kind {
-        IDENT => (0, 0, [Name, Unused, Unused, Unused, Unused]),
-        PAIR => (0, 5, [Child, Child, Unused, Unused, Unused]),
-        PROJECT_FST => (5, 9, [Child, Unused, Unused, Unused, Unused]),
-        PROJECT_SND => (9, 13, [Child, Unused, Unused, Unused, Unused]),
-        FUNCTION => (13, 16, [Name, Child, Unused, Unused, Unused]),
-        APPLICATION => (16, 20, [Child, Child, Unused, Unused, Unused]),
-        OR_LEFT => (20, 24, [Child, Unused, Unused, Unused, Unused]),
-        OR_RIGHT => (24, 28, [Child, Unused, Unused, Unused, Unused]),
-        CASE => (28, 33, [Child, Name, Child, Name, Child]),
-        ABORT => (33, 39, [Child, Unused, Unused, Unused, Unused]),
-        ASCRIPTION => (39, 42, [Child, Formula, Unused, Unused, Unused]),
-        UNIT => (0, 1, [Unused, Unused, Unused, Unused, Unused]),
+    let (keyword, held): (&[u8], _) = match kind {
+        IDENT => (b"", [Name, Unused, Unused, Unused, Unused]),
+        PAIR => (b"(pair", [Child, Child, Unused, Unused, Unused]),
+        PROJECT_FST => (b"(fst", [Child, Unused, Unused, Unused, Unused]),
+        PROJECT_SND => (b"(snd", [Child, Unused, Unused, Unused, Unused]),
+        FUNCTION => (b"(fn", [Name, Child, Unused, Unused, Unused]),
+        APPLICATION => (b"(app", [Child, Child, Unused, Unused, Unused]),
+        OR_LEFT => (b"(inl", [Child, Unused, Unused, Unused, Unused]),
+        OR_RIGHT => (b"(inr", [Child, Unused, Unused, Unused, Unused]),
+        CASE => (b"(case", [Child, Name, Child, Name, Child]),
+        ABORT => (b"(abort", [Child, Unused, Unused, Unused, Unused]),
+        ASCRIPTION => (b"(as", [Child, Formula, Unused, Unused, Unused]),
+        UNIT => (b"(", [Unused, Unused, Unused, Unused, Unused]),
         _ => return None,
     };
-    Some(Fields { start, end, held })
+    Some(Fields { keyword, held })
 }
 
 // Number i of the nodes; 0 out of range.
@@ -172,8 +168,8 @@ pub fn count_names(text: &[u8]) -> usize
     Names(text).count()
 }
 
-// Whether number x may stand in such a field of node i, over `count` formulas. A name is one of the text's `names` names, or a generated one
-// that none of them is spelled like.
+// Whether number x may stand in such a field of node i, over `count` formulas. A name is one of the text's `names` names, or a generated
+// one that none of them is spelled like.
 #[tactic(auto, unfolding(theory::specs::Layout::lawful_field, theory::specs::Layout::lawful_name))]
 fn lawful_field(field: Field, x: usize, i: usize, count: usize, names: usize, text: &[u8]) -> bool
     requires { names ≡ length (names_in text.now) }

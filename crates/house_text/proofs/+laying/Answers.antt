@@ -3,6 +3,7 @@ use Prim.Native.Nat.{◌+◌}
 use mathlib.Core.Path.{ap, ◌∙◌}
 use mathlib.Core.Option.{some}
 use native.Mathlib.Omega.{arith}
+use Rattle.std.proofs.lemmas.Bool.Decides.{nat_tests}
 use Rattle.theory.specs.Names.{bytes_of}
 use Rattle.theory.specs.NameText.{names_in}
 use Rattle.theory.specs.Text.{bytes}
@@ -79,12 +80,12 @@ lay_term-returns-in_default t c =
     laid_as (refused_piece (node_read c.requires.0 c.requires.1 c.number.ensures) (names_in c.args.draft.names.now) c.args.levels
     c.if-levels-eq0.false c.fields_of.ensures c.in_default.is) c.lay.ensures
 
-pub lay_term-returns-then-fields : goal.lay_term-returns-then-fields
-lay_term-returns-then-fields t c =
+pub lay_term-returns-then-is_empty : goal.lay_term-returns-then-is_empty
+lay_term-returns-then-is_empty t c =
     let names = names_in c.args.draft.names.now in
-    laid_as (ap (λ x. some (bytes_of (names_in c.args.draft.names.now) x)) c.number-then-fields.ensures
+    laid_as (ap (λ x. some (bytes_of (names_in c.args.draft.names.now) x)) c.number-then-is_empty.ensures
     ∙ name_piece (node_read c.requires.0 c.requires.1 c.number.ensures) names c.args.levels
-    c.if-levels-eq0.false c.fields_of.ensures c.in-Some.is c.if-fields.true)
+    c.if-levels-eq0.false c.fields_of.ensures c.in-Some.is (grind (arith, nat_tests)))
     c.lay_name.ensures
 
 pub lay_term-returns-in_err-next : goal.lay_term-returns-in_err-next
@@ -92,7 +93,7 @@ unfolding bytes front_piece
 lay_term-returns-in_err-next t c =
     rw c.from_residual.ensures
     (laid_as (rest_piece (node_read c.requires.0 c.requires.1 c.number.ensures) (names_in c.args.draft.names.now) c.args.levels
-    c.if-levels-eq0.false c.fields_of.ensures c.in-Some.is c.if-fields.false 0)
+    c.if-levels-eq0.false c.fields_of.ensures c.in-Some.is (grind (arith, nat_tests)) 0)
     (laid_stops c.in_err-next.ensures _))
 
 pub lay_term-loop-j-init : goal.lay_term-loop-j-init
@@ -112,7 +113,7 @@ lay_term-returns-in_err-next-2 t c =
     let node = (node_read c.requires.0 c.requires.1 c.number.ensures) in
     let j = c.loop-j.j in
     rw c.from_residual-in_err-next-2.ensures
-    (laid_as (rest_piece node names c.args.levels c.if-levels-eq0.false c.fields_of.ensures c.in-Some.is c.if-fields.false (j + 1))
+    (laid_as (rest_piece node names c.args.levels c.if-levels-eq0.false c.fields_of.ensures c.in-Some.is (grind (arith, nat_tests)) (j + 1))
     (laid_stops (laid_as (field_next node names c.args.levels c.if-levels-eq0.false c.fields_of.ensures c.in-Some.is j c.loop-j-test.true)
     (laid_then c.loop-j.invariant c.in_err-next-2.ensures)) _))
 
@@ -126,5 +127,5 @@ pub lay_term-returns : goal.lay_term-returns
 unfolding bytes
 lay_term-returns t c =
     laid_as (last_piece (node_read c.requires.0 c.requires.1 c.number.ensures) (names_in c.args.draft.names.now)
-    c.args.levels c.if-levels-eq0.false c.fields_of.ensures c.in-Some.is c.if-fields.false c.loop-j.j (omega arith))
+    c.args.levels c.if-levels-eq0.false c.fields_of.ensures c.in-Some.is (grind (arith, nat_tests)) c.loop-j.j (omega arith))
     (laid_then c.loop-j.invariant c.lay-3.ensures)

@@ -3,7 +3,7 @@
 use Rattle.std.proofs.Common.{◌+◌, ◌-◌, get_or, Some}
 use Rattle.std.proofs.Math.Option.{some}
 use Rattle.theory.specs.NameText.{names_in}
-use Rattle.proof_term.specs.Kinds.{field_as, word}
+use Rattle.proof_term.specs.Kinds.{field_as}
 use Rattle.house_text.specs.Laid.{Laid}
 use Rattle.house_text.proofs.NodePieces.{front_piece}
 use Rattle.house_text.proofs.Nodes.{weight, layout_of, numbers_of}
@@ -18,5 +18,5 @@ decreases-lay_term l = l.i + l.i + 1
 abbrev pub invariant-lay_term-loop-j : goal.invariant-lay_term-loop-j
 invariant-lay_term-loop-j l =
     Laid (front_piece l.draft.words.now l.draft.terms.now (names_in l.draft.names.now) (l.levels - 1)
-    (some (word l.fields.start l.fields.end)) (layout_of l.fields) (numbers_of l.draft.terms.now l.i) l.j) l.fn.buf l.fn.at l.buf
+    (some l.fields.keyword.now) (layout_of l.fields) (numbers_of l.draft.terms.now l.i) l.j) l.fn.buf l.fn.at l.buf
     (Some l.next)
