@@ -17,7 +17,7 @@ ghost use Rattle.house_text.specs.declared.TextRefusal.TheVariants.{Refused};
 ghost use Rattle.house_text.specs.Drafted.{draft_of, number_of, place_of};
 
 use formula::Kind;
-use identifier_generator::GENERATED;
+use identifier_generator::{GENERATED, NameRefusal};
 use proof_term::{Field, WIDTH, number};
 use refusal::Refusal;
 
@@ -215,7 +215,7 @@ impl TextRefusal {
     {
         match self {
             TextRefusal::Refused(refusal) => refusal.number(),
-            TextRefusal::NoRoom => identifier_generator::NO_ROOM,
+            TextRefusal::NoRoom => NameRefusal::NoRoom.number(),
         }
     }
 

@@ -13,11 +13,6 @@ pub const LAST_INDEX: usize = 4095;
 // Names below this number are the assumptions'; a generated index is added to it.
 pub const GENERATED: usize = 64;
 
-// The numbers of document 01's table that a name asked for alone can meet.
-const NAMES: usize = 7;
-
-pub const NO_ROOM: usize = 12;
-
 // The most bytes of an assumption's name.
 const MOST_BYTES: usize = 32;
 
@@ -178,24 +173,21 @@ fn spell_into(i: usize, buf: &mut [u8])
     }
 }
 
-// Why no name is written.
+// Why no name is written, by the numbers of document 01's table.
 #[derive(Clone, Copy, PartialEq, Eq)]
 pub enum NameRefusal {
     // the index is over the last one
-    Names,
+    Names = 7,
     // the buffer has no room for the letters
-    NoRoom,
+    NoRoom = 12,
 }
 
 impl NameRefusal {
-    // Its number in document 01's table.
+    // The number by which it is told.
     pub fn number(self) -> usize
         ensures { result ≡ number_of self }
     {
-        match self {
-            NameRefusal::Names => NAMES,
-            NameRefusal::NoRoom => NO_ROOM,
-        }
+        self as usize
     }
 }
 
