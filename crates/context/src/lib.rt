@@ -1,8 +1,9 @@
 #![tactic(auto)]
 // The work area of the search: a stretch of records a level, the unordered context from its front, the ordered one from its back, the
-// last record lowest; and the small moves on sequents. Every element of the work area is read and written here alone.
+// last record lowest; and the small moves on sequents, which are functions, since a type's methods stand in its crate, meter. Every element
+// of the work area is read and written here alone.
 // What is `pub` here is for the search's own crates: a `requires` is what their code shows before it calls.
-ghost use Rattle.std.specs.Prelude.{◌≡◌, ◌+◌, ◌-◌, ◌*◌, ◌%◌, ◌≤◌, ◌<◌, length, get_or, set, replicate};
+ghost use Rattle.std.specs.Prelude.{◌≡◌, ◌+◌, ◌-◌, ◌*◌, ◌%◌, ◌≤◌, ◌<◌, length, set, replicate};
 ghost use Rattle.context.specs.Area.{zeroed, rec, record_of, formula_at, term_at, raised};
 ghost use Rattle.context.specs.Area.{push_place, append_place, removed, top_place};
 ghost use Rattle.context.specs.Moves.{stretch, upped, pushed, popped, appended, without};
@@ -11,7 +12,7 @@ use meter::Sequent;
 
 // A record of the two contexts: a formula's index and a term's, in this order for any language that lends them.
 #[repr(C)]
-#[derive(Clone, Copy)]
+#[derive(Clone, Copy, PartialEq, Eq)]
 pub struct Record {
     pub formula: u16,
     pub term: u16,
@@ -30,14 +31,14 @@ pub fn filled<const N: usize>(x: u16) -> [Record; N]
     }; N]
 }
 
-// The formula of record i; 0 out of range.
+// The formula of record i; 0 out of range, so that no caller owes a bound.
 pub fn formula_at(work: &[Record], i: usize) -> usize
     ensures { result ≡ formula_at work.now i }
 {
     work.get(i).map_or(0, |record| usize::from(record.formula))
 }
 
-// The term of record i; 0 out of range.
+// The term of record i; 0 out of range, so that no caller owes a bound.
 pub fn term_at(work: &[Record], i: usize) -> usize
     ensures { result ≡ term_at work.now i }
 {

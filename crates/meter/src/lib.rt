@@ -32,7 +32,7 @@ pub struct Limits {
 }
 
 // What the search has used: steps entered, generated indices, and the fills of the lent words and nodes.
-#[derive(Clone, Copy)]
+#[derive(Clone, Copy, PartialEq, Eq)]
 pub struct State {
     pub steps: usize,
     pub indices: usize,
@@ -40,7 +40,8 @@ pub struct State {
     pub terms: usize,
 }
 
-// A sequent: its level's stretch of the work area holds so many unordered and ordered records; the goal is a formula's index.
+// A sequent: its level's stretch of the work area holds so many unordered and ordered records; the goal is a formula's index. No ghost
+// field bounds it: a struct that has one takes no `..sequent`, and each move needs a bound of its own.
 #[derive(Clone, Copy)]
 pub struct Sequent {
     pub level: usize,
