@@ -67,8 +67,8 @@ lack_limit M.Levels = refl
 -- the outcome's numbers are those of theory's
 pub numbers_of_lem : (o : Outcome) → numbers_of o ≡ numbers (outcome_of o)
 unfolding numbers_of outcome_of numbers
-numbers_of_lem (Ok (Proved r n u f t)) = refl
-numbers_of_lem (Ok (Unprovable n u f t)) = refl
+numbers_of_lem (Ok (Proved r s)) = refl
+numbers_of_lem (Ok (Unprovable s)) = refl
 numbers_of_lem (Err (Short l n)) = rw (lack_numbers l)
 numbers_of_lem (Err (Refused r)) = refl
 
@@ -95,15 +95,15 @@ broken_back (OfInput.BadGoal i) = refl
 broken_back (OfInput.BadTerm i) = refl
 
 back : C.Outcome → Outcome
-back (proved r n u f t) = Ok (Proved r n u f t)
-back (unprovable n u f t) = Ok (Unprovable n u f t)
+back (proved r n u f t) = Ok (Proved r (record { steps = n; indices = u; formulas = f; terms = t }))
+back (unprovable n u f t) = Ok (Unprovable (record { steps = n; indices = u; formulas = f; terms = t }))
 back (shortage l n) = Err (Short (limit_of l) n)
 back (refused f i) = Err (Refused (broken f i))
 
 back_is : (o : Outcome) → back (outcome_of o) ≡ o
 unfolding back outcome_of
-back_is (Ok (Proved r n u f t)) = refl
-back_is (Ok (Unprovable n u f t)) = refl
+back_is (Ok (Proved r s)) = refl
+back_is (Ok (Unprovable s)) = refl
 back_is (Err (Short l n)) = rw (lack_back l)
 back_is (Err (Refused r)) = rw (broken_back r)
 

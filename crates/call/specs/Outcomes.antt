@@ -30,15 +30,31 @@ lack_of Levels = M.Levels
 
 -- the outcome of theory's call that an outcome is
 unfoldable pub outcome_of : Outcome → C.Outcome
-outcome_of (Ok (Proved r n u f t)) = proved r n u f t
-outcome_of (Ok (Unprovable n u f t)) = unprovable n u f t
+outcome_of (Ok (Proved r s)) = proved r s.steps s.indices s.formulas s.terms
+outcome_of (Ok (Unprovable s)) = unprovable s.steps s.indices s.formulas s.terms
 outcome_of (Err (Short l n)) = shortage (lack_of l) n
 outcome_of (Err (Refused r)) = refused (refusal_of r).fault (refusal_of r).place
 
 -- the paper's number and values for each case
 unfoldable pub numbers_of : Outcome → Numbers
-numbers_of (Ok (Proved r n u f t)) = record { number = 0; place = 0; root = r; steps = n; indices = u; formulas = f; terms = t }
-numbers_of (Ok (Unprovable n u f t)) = record { number = 0; place = 0; root = 0; steps = n; indices = u; formulas = f; terms = t }
+numbers_of (Ok (Proved r s)) = record {
+  number = 0;
+  place = 0;
+  root = r;
+  steps = s.steps;
+  indices = s.indices;
+  formulas = s.formulas;
+  terms = s.terms;
+}
+numbers_of (Ok (Unprovable s)) = record {
+  number = 0;
+  place = 0;
+  root = 0;
+  steps = s.steps;
+  indices = s.indices;
+  formulas = s.formulas;
+  terms = s.terms;
+}
 numbers_of (Err (Short l n)) = record { number = number_of l; place = 0; root = 0; steps = n; indices = 0; formulas = 0; terms = 0 }
 numbers_of (Err (Refused r)) = record {
   number = fault_number (refusal_of r).fault;
@@ -67,7 +83,6 @@ numbers_kept (Err missed) = 0
 -- "Proved returns root, steps, generated indices used, formula fill, term fill. Unprovable returns steps and indices, with fills equal to
 -- the given count and 0"; a shortage returns its limit and steps
 unfoldable pub outcome_for : ℕ → Answer → Outcome
-outcome_for count (Ok found) =
-    Ok (Proved found.node found.state.steps found.state.indices found.state.formulas found.state.terms)
-outcome_for count (Err (Failed s)) = Ok (Unprovable s.steps s.indices count 0)
+outcome_for count (Ok found) = Ok (Proved found.node found.state)
+outcome_for count (Err (Failed s)) = Ok (Unprovable (record { steps = s.steps; indices = s.indices; formulas = count; terms = 0 }))
 outcome_for count (Err (Lacks l s)) = Err (Short l s.steps)

@@ -13,7 +13,7 @@ ghost use Rattle.call.specs.Start.{first_sequent, idents_from, seated};
 ghost use Rattle.call.specs.Outcomes.{numbers_of, words_kept, numbers_kept, outcome_for, keeps};
 
 use context::Record;
-use meter::{Answer, Found, Limit, Limits, Missed, Sequent};
+use meter::{Answer, Found, Limit, Limits, Missed, Sequent, State};
 use proof_term::Node;
 use refusal::Refusal;
 
@@ -21,20 +21,9 @@ use refusal::Refusal;
 #[derive(Clone, Copy, PartialEq, Eq)]
 pub enum Verdict {
     // a derivation was found: its root, and what the search has used and left
-    Proved {
-        root: usize,
-        steps: usize,
-        indices: usize,
-        formulas: usize,
-        terms: usize,
-    },
+    Proved { root: usize, used: State },
     // there is none: what the search has used; the fills are those on entry
-    Unprovable {
-        steps: usize,
-        indices: usize,
-        formulas: usize,
-        terms: usize,
-    },
+    Unprovable(State),
 }
 
 // Why there is no verdict.
@@ -103,7 +92,7 @@ fn right_sizes(room: usize, count: usize, numbers: usize, records: usize, steps:
         && refusal::work_sizes(records, steps)
 }
 
-// 3 to 5, in that order.
+// 3 to 5, in that order. A test gives a place: `Option` has no method that makes it an error, and a `map_or` for each is no plainer.
 #[tactic(auto, unfolding(crate::specs::Lent::later_refusal, theory::specs::Refusal::or_else, theory::specs::Refusal::fault_at))]
 fn later_refusal(count: usize, assumed: &[u16], names: &[u8], goal: usize) -> Result<(), Refusal>
     ensures { refused_by result ≡ later_refusal count assumed.now names.now goal }
@@ -138,6 +127,7 @@ pub fn test_claim(
     if !right_sizes(words.len(), count, terms.len(), records, steps) {
         return Err(Refusal::Sizes);
     }
+    // A test gives a place: `Option` has no method that makes it an error, and a `map_or` for it is no plainer.
     if let Some(place) = refusal::bad_word(words, count) {
         return Err(Refusal::BadFormula(place));
     }
@@ -145,7 +135,7 @@ pub fn test_claim(
 }
 
 // What the search may use of a formula slice of `room` words, a term slice of so many numbers and a work area of so many records. The
-// highest level is 0 for a work area that is refused.
+// highest level is 0 for a work area that is refused, as theory's `or_zero` has it.
 #[tactic(auto, unfolding(theory::specs::Call::or_zero))]
 pub fn limits(room: usize, numbers: usize, records: usize, steps: usize) -> Limits
     ensures { result ≡ limits_for room numbers records steps }
@@ -207,19 +197,12 @@ fn outcome_for(count: usize, answer: Answer) -> Outcome
     ensures { result ≡ outcome_for count answer }
 {
     match answer {
-        Ok(Found { node: root, state }) => Ok(Verdict::Proved {
-            root,
-            steps: state.steps,
-            indices: state.indices,
-            formulas: state.formulas,
-            terms: state.terms,
-        }),
-        Err(Missed::Failed(state)) => Ok(Verdict::Unprovable {
-            steps: state.steps,
-            indices: state.indices,
+        Ok(Found { node: root, state }) => Ok(Verdict::Proved { root, used: state }),
+        Err(Missed::Failed(state)) => Ok(Verdict::Unprovable(State {
             formulas: count,
             terms: 0,
-        }),
+            ..state
+        })),
         Err(Missed::Short(limit, state)) => Err(NoAnswer::Short {
             limit,
             steps: state.steps,
