@@ -124,6 +124,8 @@ fn lay_formula(buf: &mut [u8], at: usize, words: &[u32], i: usize, levels: usize
 }
 
 // A field of a node, number `place` of the nodes, behind a space.
+// Its six parameters stay: the buffer and the place are what each layer takes, the draft is whole, and the other three are new at each
+// field: a struct of them would be made at the one call and taken apart here.
 #[cycle(laying)]
 fn lay_field(
     buf: &mut [u8],

@@ -170,6 +170,8 @@ pub fn count_names(text: &[u8]) -> usize
 
 // Whether number x may stand in such a field of node i, over `count` formulas. A name is one of the text's `names` names, or a generated
 // one that none of them is spelled like.
+// `count`, `names` and `text` stay apart: `refusal::bad_term` alone has them together, and a struct of them would be made there and
+// taken apart here, with what binds `names` to `text` to be shown again.
 #[tactic(auto, unfolding(theory::specs::Layout::lawful_field, theory::specs::Layout::lawful_name))]
 fn lawful_field(field: Field, x: usize, i: usize, count: usize, names: usize, text: &[u8]) -> bool
     requires { names ≡ length (names_in text.now) }
