@@ -20,8 +20,9 @@ fn number_at<const WIDTH: usize>(file: &[u8], at: usize) -> usize
     ensures bounded { result < 256 ^ WIDTH }
 {
     let mut number = 0;
+    // a `for`: its invariant bounds the number, so that no sum overflows
     for byte in file[at..at + WIDTH].iter().rev() {
-        number = *byte as usize + 256 * number;
+        number = usize::from(*byte) + 256 * number;
     }
     number
 }
@@ -34,7 +35,7 @@ fn entries_end(file: &[u8], from: usize, count: usize) -> Option<usize>
 {
     let mut at = from;
     for _ in 0..count {
-        let size = *file.get(at + 2)? as usize + 3;
+        let size = usize::from(*file.get(at + 2)?) + 3;
         if file.len() - at < size {
             return None;
         }
@@ -90,6 +91,7 @@ pub fn test_file(file: &[u8]) -> Option<Sections>
 
 // The three that fill a lent array take a place and a count, not `Sections`: what they promise is for every place where so many stand. They
 // write by the index, since of elements written through `iter_mut` a proof knows nothing afterwards.
+
 // The words of the formulas, at the front of a lent array.
 pub fn fill_words(file: &[u8], count: usize, words: &mut [u32])
     requires section { 2 + 4 * count ≤ length file.now }
@@ -111,7 +113,7 @@ pub fn fill_indices(file: &[u8], from: usize, count: usize, indices: &mut [u16])
     let mut at = from;
     for i in 0..count {
         indices[i] = number_at::<2>(file, at) as u16;
-        at += file[at + 2] as usize + 3;
+        at += usize::from(file[at + 2]) + 3;
     }
 }
 
@@ -127,7 +129,7 @@ pub fn fill_names(file: &[u8], from: usize, count: usize, text: &mut [u8]) -> us
     let mut filled = 0;
     for _ in 0..count {
         let start = at + 2;
-        let size = file[start] as usize + 1;
+        let size = usize::from(file[start]) + 1;
         let end = start + size;
         text[filled..filled + size].copy_from_slice(&file[start..end]);
         filled += size;

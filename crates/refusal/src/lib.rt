@@ -101,11 +101,7 @@ pub fn node_sizes(room: usize, nodes: usize) -> bool
 pub fn highest_level(records: usize) -> Option<usize>
     ensures { option_of result ≡ highest_level records }
 {
-    if records == WORK_RECORDS {
-        Some(HIGHEST_LEVEL)
-    } else {
-        None
-    }
+    (records == WORK_RECORDS).then_some(HIGHEST_LEVEL)
 }
 
 // 1, of a work area and a step limit.
@@ -125,6 +121,7 @@ pub fn bad_word(words: &[u32], count: usize) -> Option<usize>
     let given = &words[..count.min(words.len())];
     let mut marks = [0u8; marks::BYTES];
     for (i, packed) in given.iter().enumerate() {
+        // two tests, so that each returns by itself and says why
         if !formula::laid_out(*packed, i) {
             return Some(i);
         }
@@ -140,11 +137,7 @@ pub fn bad_word(words: &[u32], count: usize) -> Option<usize>
 pub fn too_many(assumptions: usize) -> Option<usize>
     ensures { option_of result ≡ too_many assumptions }
 {
-    if assumptions <= MOST_ASSUMPTIONS {
-        None
-    } else {
-        Some(MOST_ASSUMPTIONS)
-    }
+    (MOST_ASSUMPTIONS < assumptions).then_some(MOST_ASSUMPTIONS)
 }
 
 // 3: the first index not below the count.
@@ -188,7 +181,7 @@ pub fn bad_name(text: &[u8], count: usize) -> Option<usize>
 pub fn bad_goal(count: usize, goal: usize) -> Option<usize>
     ensures { option_of result ≡ bad_goal count goal }
 {
-    if goal < count { None } else { Some(0) }
+    (count <= goal).then_some(0)
 }
 
 // 13: the lowest of the given nodes that breaks the layout, or the node count for a root not below it. Names are judged by the assumptions'
@@ -204,6 +197,7 @@ pub fn bad_term(
     requires { nodes * node_width ≤ length terms.now }
     ensures { option_of result ≡ bad_term (names_in text.now) count terms.now nodes root }
 {
+    // counted once for all nodes; a struct would be made for one caller
     let names = proof_term::count_names(text);
     for i in 0..nodes {
         if !proof_term::lawful_node(terms, i, count, names, text) {

@@ -23,9 +23,9 @@ bounds-file-at c = index_in (goal.at.bounds-file-at c).In-loop-i
 
 pub loop-i-preserved : goal.loop-i-preserved
 loop-i-preserved c =
-    index_copied c.args.file.now c.args.from c.args.count c.args.indices.now c.loop-i.at
+    rw c.from.ensures (index_copied c.args.file.now c.args.from c.args.count c.args.indices.now c.loop-i.at
     c.loop-i.i c.loop-i.indices c.loop-i.invariant (omega arith) c.number_at.result (omega arith)
-    c.number_at.ensures.result
+    c.number_at.ensures.result)
 
 pub returns : goal.returns
 returns c =

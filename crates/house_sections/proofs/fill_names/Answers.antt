@@ -28,9 +28,9 @@ loop-preserved c =
     let size =
     part_size c.args.file.now c.args.from c.args.count c.args.text.now c.loop.at
     c.loop.filled c.loop.counter c.loop.text c.loop.invariant (omega arith) in
-    name_copied c.args.file.now c.args.from c.args.count c.args.text.now c.loop.at
+    rw c.from-size.ensures (name_copied c.args.file.now c.args.from c.args.count c.args.text.now c.loop.at
     c.loop.filled c.loop.counter c.loop.text c.loop.invariant (omega arith) _ c.requires.room
-    (put_mid-paste c.loop.filled _ c.loop.text _ _ _ c.copy_from_slice.ensures.after (omega arith) refl)
+    (rw (← c.from-size.ensures) (put_mid-paste c.loop.filled _ c.loop.text _ _ _ c.copy_from_slice.ensures.after (omega arith) refl)))
 
 pub returns : goal.returns
 returns c =

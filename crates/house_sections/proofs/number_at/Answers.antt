@@ -27,7 +27,7 @@ loop-byte-preserved g c =
     let t =
     YieldsList-turn (YieldsList-from_rev_slice bytes (cc)) c.loop-byte.yielded _ c.loop-byte.yielded_by _ _
     c.in-Some.byte c.in-Some.is c.next.ensures.steps in
-    rw length_push (last_read c.args.file.now c.args.at g.row.WIDTH c.requires.inside c.loop-byte.number
+    rw (length_push, c.from.ensures) (last_read c.args.file.now c.args.at g.row.WIDTH c.requires.inside c.loop-byte.number
     (length c.loop-byte.yielded) c.in-Some.byte.now c.loop-byte.invariant t.0 t.1
     (λ (i : ℕ). omega (arith, c.type_inv.file i)))
 
