@@ -23,6 +23,7 @@ use Rattle.call.specs.Lent.{claim_of}
 use Rattle.call.specs.Whole.{Called}
 use Rattle.call.proofs.Whole as W
 use Rattle.call.proofs.Whole.{lack_back, broken, broken_back}
+use Rattle.meter.specs.declared.State.{State}
 use Rattle.meter.specs.Moves.{limit_of}
 use Rattle.status.specs.declared.Status.TheVariants.{Solvable, Unsolvable, Unknown}
 use Rattle.status.specs.Answers.{Answer, status_of, numbers_of}
@@ -84,7 +85,7 @@ module _ (f : List ℕ) (count goal : ℕ) (t : List ℕ) (w : List Rec) (steps 
         (ap (λ (n : ℕ). replicate n 0) (k.numbers ∙ stands.numbers)) ew
 
     -- a proof: Solvable
-    pub proved_solvable : {r n u fs ts : ℕ} → o ≡ Ok (Proved r n u fs ts) →
+    pub proved_solvable : {r : ℕ} {used : State} → o ≡ Ok (Proved r used) →
         Answered x w (Ok Solvable) (padded (length f1) (take count f1)) (replicate (length t1) 0) w1
     unfolding first_claim outcome_of judged status_of
     proved_solvable d =
@@ -112,7 +113,7 @@ module _ (f : List ℕ) (count goal : ℕ) (t : List ℕ) (w : List Rec) (steps 
               ∙ ap (λ (v : Asked). records_left v w) a;
         }
 
-    module _ {n u fs ts : ℕ} (d : o ≡ Ok (Unprovable n u fs ts)) where
+    module _ {used : State} (d : o ≡ Ok (Unprovable used)) where
       -- no proof: the claim passed, and the status is that of a goal without proof
       failed_passed : (refusal (first_claim x) ≡ none) × ((asked x).status ≡ failed_status x)
       unfolding first_claim outcome_of judged failed_status

@@ -3,6 +3,7 @@
 // search of its negation.
 // The lent slices stay separate parameters. A struct that holds them was tried for the search's rules, and the proof didn't close: after a
 // shared read of a `&mut` slice in a field nothing is known of its elements.
+// The count, the goal and the steps stay apart as the public call has them: the second search has others of the first two.
 ghost use Rattle.std.specs.Prelude.{◌≡◌, ◌+◌, ◌≤◌, ◌<◌, [], map, length, get_or, take, replicate};
 ghost use Rattle.std.proofs.Math.Option.{none};
 ghost use Rattle.theory.specs.Form.{shape, form, Good};
@@ -97,7 +98,7 @@ fn refuted(second: Outcome) -> Result<Status, NoAnswer>
 {
     match second? {
         Verdict::Proved { .. } => Ok(Status::Unsolvable),
-        Verdict::Unprovable { .. } => Ok(Status::Unknown),
+        Verdict::Unprovable(_) => Ok(Status::Unknown),
     }
 }
 
@@ -188,7 +189,7 @@ pub fn solvable_status(
 {
     let status = match search_goal(words, count, goal, terms, work, steps)? {
         Verdict::Proved { .. } => Ok(Status::Solvable),
-        Verdict::Unprovable { .. } => unproved(words, count, goal, terms, work, steps),
+        Verdict::Unprovable(_) => unproved(words, count, goal, terms, work, steps),
     };
     clean(words, terms, count);
     status
