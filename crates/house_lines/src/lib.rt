@@ -9,6 +9,7 @@ ghost use Rattle.house_text.specs.Laid.{Laid, InRoom};
 ghost use Rattle.house_lines.specs.Lines.{Printable};
 
 use house_text::{clear_from, lay, lay_decimal};
+use meter::State;
 
 // A text, and the newline that ends its line.
 fn lay_line(out: &mut [u8], at: usize, text: &[u8]) -> Option<usize>
@@ -71,41 +72,25 @@ pub fn unprovable(out: &mut [u8], steps: usize) -> usize
 }
 
 // The six lines of a proved goal, the last of which is the text of its term.
-// The four counts stay apart: a struct would be put together by the one caller and taken apart here, which is no plainer.
-fn lay_proved(
-    out: &mut [u8],
-    at: usize,
-    steps: usize,
-    names: usize,
-    formulas: usize,
-    terms: usize,
-    text: &[u8],
-) -> Option<usize>
-    requires { Printable steps × Printable names × Printable formulas × Printable terms }
-    ensures { Laid (some (proved_with steps names formulas terms text.now)) out.old at out.new result }
+fn lay_proved(out: &mut [u8], at: usize, used: State, text: &[u8]) -> Option<usize>
+    requires { Printable used.steps × Printable used.indices × Printable used.formulas × Printable used.terms }
+    ensures { Laid (some (proved_with used.steps used.indices used.formulas used.terms text.now)) out.old at out.new result }
 {
     let after_verdict = lay_line(out, at, b"proved")?;
-    let after_steps = lay_counted(out, after_verdict, b"steps ", steps)?;
-    let after_names = lay_counted(out, after_steps, b"names ", names)?;
-    let after_formulas = lay_counted(out, after_names, b"formulas ", formulas)?;
-    let after_terms = lay_counted(out, after_formulas, b"terms ", terms)?;
+    let after_steps = lay_counted(out, after_verdict, b"steps ", used.steps)?;
+    let after_names = lay_counted(out, after_steps, b"names ", used.indices)?;
+    let after_formulas = lay_counted(out, after_names, b"formulas ", used.formulas)?;
+    let after_terms = lay_counted(out, after_formulas, b"terms ", used.terms)?;
     lay_line(out, after_terms, text)
 }
 
 // The lines of a proved goal whose text is written.
-pub fn proved(
-    out: &mut [u8],
-    steps: usize,
-    names: usize,
-    formulas: usize,
-    terms: usize,
-    text: &[u8],
-) -> usize
-    requires printable { Printable steps × Printable names × Printable formulas × Printable terms }
-    requires room { length (proved_with steps names formulas terms text.now) ≤ length out.old }
-    ensures out { out.new ≡ padded (length out.old) (proved_with steps names formulas terms text.now) }
-    ensures length { result ≡ length (proved_with steps names formulas terms text.now) }
+pub fn proved(out: &mut [u8], used: State, text: &[u8]) -> usize
+    requires printable { Printable used.steps × Printable used.indices × Printable used.formulas × Printable used.terms }
+    requires room { length (proved_with used.steps used.indices used.formulas used.terms text.now) ≤ length out.old }
+    ensures out { out.new ≡ padded (length out.old) (proved_with used.steps used.indices used.formulas used.terms text.now) }
+    ensures length { result ≡ length (proved_with used.steps used.indices used.formulas used.terms text.now) }
 {
-    let end = lay_proved(out, 0, steps, names, formulas, terms, text);
+    let end = lay_proved(out, 0, used, text);
     close(out, end)
 }

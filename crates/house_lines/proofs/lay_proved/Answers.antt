@@ -8,7 +8,7 @@ pub returns-in_err-after_verdict : goal.returns-in_err-after_verdict
 unfolding bytes
 returns-in_err-after_verdict c =
     let args = c.args in
-    rw c.from_residual.ensures (laid_as (proved_pieces args.steps args.names args.formulas args.terms args.text.now)
+    rw c.from_residual.ensures (laid_as (proved_pieces args.used.steps args.used.indices args.used.formulas args.used.terms args.text.now)
     (laid_stops c.in_err-after_verdict.ensures _))
 
 pub returns-in_err-after_steps : goal.returns-in_err-after_steps
@@ -16,7 +16,7 @@ unfolding bytes
 returns-in_err-after_steps c =
     let args = c.args in
     rw c.from_residual-in_err-after_steps.ensures
-    (laid_as (proved_pieces args.steps args.names args.formulas args.terms args.text.now)
+    (laid_as (proved_pieces args.used.steps args.used.indices args.used.formulas args.used.terms args.text.now)
     (laid_then c.in_ok-after_verdict.ensures (laid_stops c.in_err-after_steps.ensures _)))
 
 pub returns-in_err-after_names : goal.returns-in_err-after_names
@@ -24,7 +24,7 @@ unfolding bytes
 returns-in_err-after_names c =
     let args = c.args in
     rw c.from_residual-in_err-after_names.ensures
-    (laid_as (proved_pieces args.steps args.names args.formulas args.terms args.text.now)
+    (laid_as (proved_pieces args.used.steps args.used.indices args.used.formulas args.used.terms args.text.now)
     (laid_then c.in_ok-after_verdict.ensures (laid_then c.in_ok-after_steps.ensures (laid_stops c.in_err-after_names.ensures _))))
 
 pub returns-in_err-after_formulas : goal.returns-in_err-after_formulas
@@ -32,7 +32,7 @@ unfolding bytes
 returns-in_err-after_formulas c =
     let args = c.args in
     rw c.from_residual-in_err-after_formulas.ensures
-    (laid_as (proved_pieces args.steps args.names args.formulas args.terms args.text.now)
+    (laid_as (proved_pieces args.used.steps args.used.indices args.used.formulas args.used.terms args.text.now)
     (laid_then c.in_ok-after_verdict.ensures (laid_then c.in_ok-after_steps.ensures (laid_then c.in_ok-after_names.ensures
     (laid_stops c.in_err-after_formulas.ensures _)))))
 
@@ -41,7 +41,7 @@ unfolding bytes
 returns-in_err-after_terms c =
     let args = c.args in
     rw c.from_residual-in_err-after_terms.ensures
-    (laid_as (proved_pieces args.steps args.names args.formulas args.terms args.text.now)
+    (laid_as (proved_pieces args.used.steps args.used.indices args.used.formulas args.used.terms args.text.now)
     (laid_then c.in_ok-after_verdict.ensures (laid_then c.in_ok-after_steps.ensures (laid_then c.in_ok-after_names.ensures
     (laid_then c.in_ok-after_formulas.ensures (laid_stops c.in_err-after_terms.ensures _))))))
 
@@ -49,6 +49,6 @@ pub returns : goal.returns
 unfolding bytes
 returns c =
     let args = c.args in
-    laid_as (proved_pieces args.steps args.names args.formulas args.terms args.text.now) (laid_then c.in_ok-after_verdict.ensures
-    (laid_then c.in_ok-after_steps.ensures (laid_then c.in_ok-after_names.ensures (laid_then c.in_ok-after_formulas.ensures
-    (laid_then c.in_ok-after_terms.ensures (c.lay_line-2.ensures))))))
+    laid_as (proved_pieces args.used.steps args.used.indices args.used.formulas args.used.terms args.text.now)
+    (laid_then c.in_ok-after_verdict.ensures (laid_then c.in_ok-after_steps.ensures (laid_then c.in_ok-after_names.ensures
+    (laid_then c.in_ok-after_formulas.ensures (laid_then c.in_ok-after_terms.ensures (c.lay_line-2.ensures))))))

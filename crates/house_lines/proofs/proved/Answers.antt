@@ -7,7 +7,7 @@ use Rattle.house_lines.proofs.proved.Goals as goal
 pub returns : goal.returns
 returns c =
     let args = c.args in
-    let lines = proved_with args.steps args.names args.formulas args.terms args.text.now in
+    let lines = proved_with args.used.steps args.used.indices args.used.formulas args.used.terms args.text.now in
     let laid = c.lay_proved-end.ensures in
     record {
       out = filled lines laid c.requires.room c.close.ensures.out;
