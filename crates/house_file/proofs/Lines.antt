@@ -38,8 +38,8 @@ use Rattle.house_file.specs.Output.{lines_for, Printables}
 pub lines_of : (x : Claim) (o : Outcome) →
     lines_for o (called x).words (called x).terms (length x.assumed) x.text ≡ answer_lines x (outcome_of o)
 unfolding lines_for outcome_of answer_lines draft_after numbers
-lines_of x (Ok (Proved r n u f t)) = refl
-lines_of x (Ok (Unprovable n u f t)) = refl
+lines_of x (Ok (Proved r s)) = refl
+lines_of x (Ok (Unprovable s)) = refl
 lines_of x (Err (OfSearch.Short l n)) = ap (λ (v : Numbers). refused_line v.number) (numbers_of_lem (Err (OfSearch.Short l n)))
 lines_of x (Err (OfSearch.Refused r)) = ap (λ (v : Numbers). refused_line v.number) (numbers_of_lem (Err (OfSearch.Refused r)))
 
@@ -75,9 +75,9 @@ outcome_small (C.refused f i) = (fault_small f).1
 pub printables : (x : Claim) (o : Outcome) → FitIn x (outcome_of o) → x.step_limit ≤ 1000000 → length x.words ≤ 4096 →
     length x.terms ≤ 24576 → Printables o
 unfolding outcome_of
-printables x (Ok (Proved r n u f t)) h s w k =
+printables x (Ok (Proved r used)) h s w k =
     (omega (arith, h.0), omega (arith, h.1), omega (arith, h.3), omega (arith, h.5))
-printables x (Ok (Unprovable n u f t)) h s w k = omega (arith, h.0)
+printables x (Ok (Unprovable used)) h s w k = omega (arith, h.0)
 printables x (Err missing) h s w k =
     subst (λ (v : Numbers). Printable v.number) (sym (numbers_of_lem (Err missing))) (outcome_small (outcome_of (Err missing)))
 

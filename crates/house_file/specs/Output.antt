@@ -16,13 +16,14 @@ pub record Answers (x : Claim) (o : Outcome) (f t : List ℕ) : Type 0 where
 
 -- the lines of an answer, from what the search left and the assumptions' names
 unfoldable pub lines_for : Outcome → List ℕ → List ℕ → ℕ → List ℕ → List ℕ
-lines_for (Ok (Proved r n u f t)) words terms assumptions text =
-    proved_lines n u f t (written (draft words f assumptions text terms t r (replicate 32768 0)))
-lines_for (Ok (Unprovable n u f t)) words terms assumptions text = unprovable_lines n
+lines_for (Ok (Proved r s)) words terms assumptions text =
+    proved_lines s.steps s.indices s.formulas s.terms
+    (written (draft words s.formulas assumptions text terms s.terms r (replicate 32768 0)))
+lines_for (Ok (Unprovable s)) words terms assumptions text = unprovable_lines s.steps
 lines_for (Err missing) words terms assumptions text = refused_line (numbers_of (Err missing)).number
 
 -- the numbers that are printed have at most seven digits
 abbrev pub Printables : Outcome → Type 0
-Printables (Ok (Proved r n u f t)) = Printable n × Printable u × Printable f × Printable t
-Printables (Ok (Unprovable n u f t)) = Printable n
+Printables (Ok (Proved r s)) = Printable s.steps × Printable s.indices × Printable s.formulas × Printable s.terms
+Printables (Ok (Unprovable s)) = Printable s.steps
 Printables (Err missing) = Printable (numbers_of (Err missing)).number

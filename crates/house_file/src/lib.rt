@@ -4,7 +4,7 @@ ghost use Rattle.std.specs.Prelude.{◌≡◌, ◌≤◌, length, replicate};
 ghost use Rattle.std.proofs.Math.Option.{some};
 ghost use Rattle.theory.specs.NameText.{padded};
 ghost use Rattle.theory.specs.Writer.{written};
-ghost use Rattle.theory.specs.File.{decoded, proved_lines, goal_lines, printed};
+ghost use Rattle.theory.specs.File.{decoded, proved_lines, printed};
 ghost use Rattle.call.specs.Lent.{claim_of};
 ghost use Rattle.house_text.specs.Drafted.{draft_of};
 ghost use Rattle.house_lines.specs.Lines.{Printable};
@@ -14,6 +14,7 @@ ghost use Rattle.house_file.specs.Output.{Answers, lines_for, Printables};
 use call::{Outcome, Verdict};
 use house_sections::Sections;
 use house_text::Draft;
+use meter::State;
 
 // "The program lends 4,096 words, 4,096 nodes, 1,000,000 steps, 32,768 text bytes".
 const WORDS: usize = 4096;
@@ -38,7 +39,7 @@ const RECORDS: usize = 16384;
 // The number of document 01's table for a file that is no house file.
 const BAD_FILE: usize = 14;
 
-// The search with the program's work area and step limit.
+// The search with the program's work area and step limit. Its parameters stay apart, as `prove::prove` lends them.
 fn search_claim(
     words: &mut [u32],
     count: usize,
@@ -55,26 +56,26 @@ fn search_claim(
 }
 
 // The lines of a proved goal: its counts and the text of its term, or the writer's refusal.
-fn proved_lines(draft: Draft, steps: usize, indices: usize, out: &mut [u8]) -> usize
-    requires printable { Printable steps × Printable indices × Printable draft.count × Printable draft.nodes }
-    requires room { length (proved_lines steps indices draft.count draft.nodes
+fn proved_lines(draft: Draft, used: State, out: &mut [u8]) -> usize
+    requires printable { Printable used.steps × Printable used.indices × Printable used.formulas × Printable used.terms }
+    requires room { length (proved_lines used.steps used.indices used.formulas used.terms
         (written (draft_of draft (replicate 32768 0)))) ≤ length out.old }
-    ensures out { out.new ≡ padded (length out.old) (proved_lines steps indices draft.entry.count draft.entry.nodes
+    ensures out { out.new ≡ padded (length out.old) (proved_lines used.steps used.indices used.formulas used.terms
         (written (draft_of draft.entry (replicate 32768 0)))) }
-    ensures length { result ≡ length (proved_lines steps indices draft.entry.count draft.entry.nodes
+    ensures length { result ≡ length (proved_lines used.steps used.indices used.formulas used.terms
         (written (draft_of draft.entry (replicate 32768 0)))) }
 {
     let mut text = [0u8; TEXT_BYTES];
     match house_text::write_text(draft, &mut text) {
         Ok(size) => {
             let text = &text[..size];
-            house_lines::proved(out, steps, indices, draft.count, draft.nodes, text)
+            house_lines::proved(out, used, text)
         }
         Err(refusal) => house_lines::refused(out, refusal.number()),
     }
 }
 
-// The lines of one answer of the search.
+// The lines of one answer of the search. What it left, and what it was asked, stay apart as `prove::prove` lends them.
 #[tactic(auto, unfolding(crate::specs::Output::lines_for))]
 fn answer_lines(
     outcome: Outcome,
@@ -91,27 +92,19 @@ fn answer_lines(
     ensures length { result ≡ length (lines_for outcome words.now terms.now assumptions names.now) }
 {
     match outcome {
-        Ok(
-            Verdict::Proved {
-                root,
-                steps,
-                indices,
-                formulas,
-                terms: nodes,
-            },
-        ) => {
+        Ok(Verdict::Proved { root, used }) => {
             let draft = Draft {
                 words,
-                count: formulas,
+                count: used.formulas,
                 assumptions,
                 names,
                 terms,
-                nodes,
+                nodes: used.terms,
                 root,
             };
-            proved_lines(draft, steps, indices, out)
+            proved_lines(draft, used, out)
         }
-        Ok(Verdict::Unprovable { steps, .. }) => house_lines::unprovable(out, steps),
+        Ok(Verdict::Unprovable(used)) => house_lines::unprovable(out, used.steps),
         Err(missing) => house_lines::refused(out, missing.number()),
     }
 }

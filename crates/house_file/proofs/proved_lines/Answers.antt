@@ -19,12 +19,13 @@ pub proved-requires-clause-room : goal.proved-requires-clause-room
 proved-requires-clause-room c =
     let args = c.args in
     subst (λ (xs : List ℕ). length xs ≤ length args.out.now)
-    (lines_written _ args.steps args.indices args.draft.count args.draft.nodes c.in-Ok.ensures.written) c.requires.room
+    (lines_written _ args.used.steps args.used.indices args.used.formulas args.used.terms c.in-Ok.ensures.written) c.requires.room
 
 pub returns-in-Ok : goal.returns-in-Ok
 returns-in-Ok c =
     let args = c.args in
-    let lines = sym (lines_written _ args.steps args.indices args.draft.count args.draft.nodes c.in-Ok.ensures.written) in record {
+    let lines = sym (lines_written _ args.used.steps args.used.indices args.used.formulas args.used.terms c.in-Ok.ensures.written) in
+    record {
       out = c.proved.ensures.out ∙ ap (padded (length args.out.now)) lines;
       length = c.proved.ensures.length ∙ ap length lines;
     }
@@ -36,13 +37,14 @@ pub refused-requires-clause-room : goal.refused-requires-clause-room
 refused-requires-clause-room c =
     let args = c.args in
     rw c.number.ensures (subst (λ (xs : List ℕ). length xs ≤ length args.out.now)
-    (lines_refused _ args.steps args.indices args.draft.count args.draft.nodes c.in-Err.refusal c.in-Err.ensures.written) c.requires.room)
+    (lines_refused _ args.used.steps args.used.indices args.used.formulas args.used.terms c.in-Err.refusal c.in-Err.ensures.written)
+    c.requires.room)
 
 pub returns-in-Err : goal.returns-in-Err
 returns-in-Err c =
     let args = c.args in
     let refused = c.in-Err.ensures.written in
-    let lines = sym (lines_refused _ args.steps args.indices args.draft.count args.draft.nodes c.in-Err.refusal refused) in
+    let lines = sym (lines_refused _ args.used.steps args.used.indices args.used.formulas args.used.terms c.in-Err.refusal refused) in
     record {
       out = c.refused.ensures.out ∙ rw c.number.ensures (ap (padded (length args.out.now)) lines);
       length = c.refused.ensures.length ∙ rw c.number.ensures (ap length lines);
