@@ -22,8 +22,8 @@ use Rattle.quaysaffron_c.specs.Told.{Kind, outcome_kind, status_kind, kind_of, v
 -- the prover's outcome has the kind of theory's
 kind_as : (o : Outcome) → kind_of o ≡ outcome_kind (outcome_of o)
 unfolding outcome_of outcome_kind
-kind_as (Ok (Proved r n u f t)) = refl
-kind_as (Ok (Unprovable n u f t)) = refl
+kind_as (Ok (Proved r used)) = refl
+kind_as (Ok (Unprovable used)) = refl
 kind_as (Err (Short l n)) = refl
 kind_as (Err (Refused r)) = refl
 

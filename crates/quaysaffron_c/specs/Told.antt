@@ -58,8 +58,8 @@ failure_kind (OfCall.Short l n) = Short
 failure_kind (OfCall.Refused r) = Refused
 
 abbrev pub kind_of : CallOutcome.Outcome → Kind
-kind_of (Ok (OfSearch.Proved r n u f t)) = Proved
-kind_of (Ok (OfSearch.Unprovable n u f t)) = Unprovable
+kind_of (Ok (OfSearch.Proved r s)) = Proved
+kind_of (Ok (OfSearch.Unprovable s)) = Unprovable
 kind_of (Err why) = failure_kind why
 
 abbrev pub verdict_of : Result StatusAnswer.Status NoAnswer → Kind

@@ -18,6 +18,7 @@ ghost use Rattle.quaysaffron_c.specs.Told.{kind_of, verdict_of, in_order, refuse
 use call::{NoAnswer, Outcome, Verdict};
 use context::Record;
 use house_text::Draft;
+use meter::State;
 use refusal::Refusal;
 use status::Status;
 
@@ -59,25 +60,18 @@ fn no_verdict(why: NoAnswer) -> [usize; ANSWER]
 fn outcome_answer(outcome: Outcome) -> [usize; ANSWER]
     ensures { result ≡ in_order (kind_of outcome) (Outcomes.numbers_of outcome) }
 {
-    let verdict = match outcome {
-        Ok(verdict) => verdict,
+    let (kind, root, used) = match outcome {
+        Ok(Verdict::Proved { root, used }) => (PROVED, root, used),
+        Ok(Verdict::Unprovable(used)) => (UNPROVABLE, 0, used),
         Err(why) => return no_verdict(why),
     };
-    match verdict {
-        Verdict::Proved {
-            root,
-            steps,
-            indices,
-            formulas,
-            terms,
-        } => [PROVED, 0, 0, root, steps, indices, formulas, terms],
-        Verdict::Unprovable {
-            steps,
-            indices,
-            formulas,
-            terms,
-        } => [UNPROVABLE, 0, 0, 0, steps, indices, formulas, terms],
-    }
+    let State {
+        steps,
+        indices,
+        formulas,
+        terms,
+    } = used;
+    [kind, 0, 0, root, steps, indices, formulas, terms]
 }
 
 // The status of a goal as an answer.
