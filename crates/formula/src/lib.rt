@@ -81,7 +81,8 @@ pub fn store(words: &mut [u32], i: usize, x: u32)
     }
 }
 
-// The words from `from` on become 0. `proof_term::clear` does so for numbers: no crate with code lies under both.
+// The words from `from` on become 0. `proof_term::clear` does so for numbers: no crate with code lies under both. Both are named calls of
+// docs/CONTRACTS.md.
 pub fn clear(words: &mut [u32], from: usize)
     ensures { words.new ≡ padded (length words.old) (take from words.old) }
 {

@@ -3,7 +3,7 @@
 ghost use Rattle.std.specs.Prelude.{◌/◌, ◌%◌, ◌^◌, ◌≤◌, ◌≡◌, length, get_or};
 ghost use Rattle.std.specs.Iterator.{YieldsFirstRef, item_count};
 ghost use Rattle.theory.specs.Names.{spell, same, among, skipped, fresh};
-ghost use Rattle.theory.specs.NameText.{names_in, between, name_byte, well_spelled, lawful_after, padded, name_alone};
+ghost use Rattle.theory.specs.NameText.{names_in, name_byte, well_spelled, lawful_after, padded, name_alone};
 ghost use Rattle.identifier_generator.specs.Entry.{entry_size, entry_from, EntryPart, NamePart};
 ghost use Rattle.identifier_generator.specs.Handed.{Hands, HandsResult, number_of, size_in, number_in};
 
@@ -31,6 +31,7 @@ fn digit(i: usize, k: usize) -> usize
     ensures { result ≡ i / 26 ^ k % 26 }
 {
     let mut power: usize = 1;
+    // `_passed` is named for the invariant
     for _passed in 0..k {
         if i / LETTERS < power {
             return 0;
@@ -136,6 +137,7 @@ fn find_entry(text: &[u8], k: usize) -> Option<(usize, usize)>
     ensures { result ≡ entry_from 0 k text.now }
 {
     let mut at = 0;
+    // `_passed` is named for the invariant
     for _passed in 0..k {
         at += entry_size(&text[at..])?;
     }
@@ -144,6 +146,7 @@ fn find_entry(text: &[u8], k: usize) -> Option<(usize, usize)>
 }
 
 // Entry `k` of `text` as a part of it; the empty front of `assumed` where it is cut or missing.
+// No Option: what `name` promises of a number that has no name is the empty front of `assumed`.
 fn entry_part<'a>(text: &'a [u8], k: usize, assumed: &'a [u8]) -> &'a [u8]
     ensures { EntryPart text.entry k assumed.entry result }
 {
@@ -164,6 +167,7 @@ pub fn name<'a>(assumed: &'a [u8], generated: &'a [u8], x: usize) -> &'a [u8]
 }
 
 // The letters of index `i`, then zeros. For a buffer that has room for them.
+// By index: of the elements that an `iter_mut` lends nothing is known afterwards.
 fn spell_into(i: usize, buf: &mut [u8])
     requires { length (spell i) ≤ length buf.old }
     ensures { buf.new ≡ padded (length buf.old) (spell i) }
@@ -196,16 +200,16 @@ pub fn write_alone(i: usize, buf: &mut [u8]) -> Result<usize, NameRefusal>
     ensures { Hands (name_alone i (length buf.old)) (size_in result) (number_in number_of result) buf.new }
 {
     let count = letter_count(i);
-    if LAST_INDEX < i {
-        buf.fill(0);
-        return Err(NameRefusal::Names);
-    }
-    if buf.len() < count {
-        buf.fill(0);
-        return Err(NameRefusal::NoRoom);
-    }
-    spell_into(i, buf);
-    Ok(count)
+    let refusal = if LAST_INDEX < i {
+        NameRefusal::Names
+    } else if buf.len() < count {
+        NameRefusal::NoRoom
+    } else {
+        spell_into(i, buf);
+        return Ok(count);
+    };
+    buf.fill(0);
+    Err(refusal)
 }
 
 // The name of index `i` asked for alone, as the front part of the buffer that `write_alone` fills.

@@ -125,7 +125,7 @@ pub fn fields_of(kind: usize) -> Option<Fields>
     Some(Fields { keyword, held })
 }
 
-// Number i of the nodes; 0 out of range.
+// Number i of the nodes; 0 out of range, so that no caller owes a bound.
 pub fn number(terms: &[u16], i: usize) -> usize
     ensures { result ≡ get_or terms.now i 0 }
 {
@@ -150,7 +150,8 @@ pub fn put(terms: &mut [u16], n: usize, node: Node)
     put_numbers(terms, n, node.numbers());
 }
 
-// The numbers from `from` on become 0. `formula::clear` does so for words: no crate with code lies under both.
+// The numbers from `from` on become 0. `formula::clear` does so for words: no crate with code lies under both. Both are named calls of
+// docs/CONTRACTS.md.
 #[tactic(auto, unfolding(theory::specs::NameText::padded))]
 pub fn clear(terms: &mut [u16], from: usize)
     ensures { terms.new ≡ padded (length terms.old) (take from terms.old) }

@@ -1,6 +1,7 @@
 #![tactic(auto)]
 // The search of document 01: right, left and search, which call one another, and the public call. Dyckhoff's weight of the sequent is
 // the measure. The lent slices are no part of `Setting`: search_left says why.
+// A state and a sequent stay apart too: a rule changes the one and keeps the other.
 ghost use Rattle.std.specs.Prelude.{◌≡◌, ◌<◌, length};
 ghost use Rattle.theory.specs.NameText.{names_in};
 ghost use Rattle.theory.specs.Names.{skipped, fresh};
@@ -262,7 +263,8 @@ fn search(
     }
 }
 
-// The second half of a disjunction, when the first failed; and then the positions.
+// The second half of a disjunction, when the first failed; and then the positions. Not one function with search: the half, the node and
+// what follows a failure all differ.
 #[cycle(judgement)]
 fn second_half(
     words: &mut [u32],

@@ -5,6 +5,7 @@
 // What is `pub` here is for the search's own crates: a `requires` is what their code shows before it calls.
 // The lent slices stay separate parameters. A struct that holds them was tried, and the proof didn't close: after a shared read of a `&mut`
 // field nothing is known of its elements, and each call would owe a clause for the slices that it leaves alone.
+// A state and a sequent stay apart too: a rule changes the one and keeps the other.
 ghost use Rattle.std.specs.Prelude.{◌≡◌, List, ℕ, ◌+◌, ◌*◌, ◌≤◌, ◌<◌, length, get_or, set};
 ghost use Rattle.theory.specs.Term.{app, six_of};
 ghost use Rattle.proof_term.specs.Put.{put_node};

@@ -3,6 +3,7 @@
 // What is `pub` here is for the crate `prove`: a `requires` is what its code shows before it calls.
 // The lent slices stay separate parameters. A struct that holds them was tried, and the proof didn't close: after a shared read of a `&mut`
 // field nothing is known of its elements, and each call would owe a clause for the slices that it leaves alone.
+// A state and a sequent stay apart too: a rule changes the one and keeps the other.
 ghost use Rattle.std.specs.Prelude.{◌≡◌, List, ℕ, ◌+◌, ◌≤◌, ◌<◌, length, map, set};
 ghost use Rattle.theory.specs.Form.{is_imp, word};
 ghost use Rattle.theory.specs.NameText.{names_in};
@@ -125,6 +126,7 @@ pub fn nested(words: &[u32], work: &[Record], sequent: Sequent, i: usize) -> boo
 }
 
 // A∧B: both halves are pushed in its place, the second last.
+// a and x, the last record's formula and term, are indices; a Record holds 16 bits of each.
 fn left_and(
     words: &[u32],
     terms: &mut [u16],

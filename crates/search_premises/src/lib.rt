@@ -1,8 +1,8 @@
 #![tactic(auto)]
 // What a rule tests, writes and moves before one of its premises is asked a level up.
 // What is `pub` here is for the crate `prove`: a `requires` is what its code shows before it calls.
-// The lent slices stay parameters of their own, as in `prove`; and so do a state and a sequent, since a rule changes the one and keeps the
-// other.
+// The lent slices stay parameters of their own, as in `search_left`, which says why; and so do a state and a sequent, since a rule changes
+// the one and keeps the other.
 ghost use Rattle.std.specs.Prelude.{◌≡◌, List, ℕ, ◌+◌, ◌*◌, ◌≤◌, ◌<◌, length, set};
 ghost use Rattle.theory.specs.Names.{fresh};
 ghost use Rattle.context.specs.Moves.{stretch, upped, without, pushed};
