@@ -35,15 +35,16 @@ pub struct Draft<'a> {
 }
 
 // Each function that lays a piece returns the next place; there is none where the text has no room, and then nothing more is laid.
+// The buffer and the place are no struct: after a shared read of a `&mut` field nothing is known of its elements.
 
 // The bytes of a text. For the program's lines too.
 pub fn lay(buf: &mut [u8], at: usize, text: &[u8]) -> Option<usize>
     ensures { Laid (some text.now) buf.old at buf.new result }
 {
-    if buf.len() < at || buf.len() - at < text.len() {
+    let end = at.checked_add(text.len())?;
+    if buf.len() < end {
         return None;
     }
-    let end = at + text.len();
     buf[at..end].copy_from_slice(text);
     Some(end)
 }
@@ -55,6 +56,7 @@ fn lay_byte(buf: &mut [u8], at: usize, b: u8) -> Option<usize>
 }
 
 // A number in decimal. For symbols and counts, which have at most seven digits.
+// By hand: of a slice that `write!` fills no clause says which bytes it then holds.
 pub fn lay_decimal(buf: &mut [u8], at: usize, n: usize) -> Option<usize>
     requires { n < 10000000 }
     ensures { Laid (some (decimal n)) buf.old at buf.new result }
@@ -102,6 +104,7 @@ fn lay_formula(buf: &mut [u8], at: usize, words: &[u32], i: usize, levels: usize
     requires inside { i < length words.now }
     ensures { Laid (form_piece words.now levels i) buf.old at buf.new result }
 {
+    // by a test: with `checked_sub(1)?` each answer would have to say what is left
     if levels == 0 {
         return None;
     }
@@ -167,6 +170,7 @@ fn lay_term(buf: &mut [u8], at: usize, draft: Draft, i: usize, levels: usize) ->
     ensures { Laid (term_piece draft.entry.words.now draft.entry.terms.now (names_in draft.entry.names.now) levels i) buf.old at
         buf.new result }
 {
+    // by a test, as in `lay_formula`
     if levels == 0 {
         return None;
     }
@@ -179,6 +183,7 @@ fn lay_term(buf: &mut [u8], at: usize, draft: Draft, i: usize, levels: usize) ->
         return lay_name(buf, at, draft.names, number(draft.terms, node + 1));
     }
     let mut next = lay(buf, at, fields.keyword)?;
+    // by number: a field's place in the node needs it too
     for j in 0..5 {
         next = lay_field(buf, next, draft, fields.held[j], node + 1 + j, levels - 1)?;
     }
@@ -233,6 +238,7 @@ impl TextRefusal {
 }
 
 // The first test that refuses, in the order 1, 2, 3, 4, 13.
+// A test gives a place: `Option` has no method that makes it an error, and a `map_or` for each is no plainer.
 fn test(draft: Draft) -> Result<(), Refusal>
     ensures { refused_by result ≡ writer_refusal (draft_of draft.entry []) }
 {
