@@ -1,7 +1,6 @@
 -- The list of rows as bytes: the position some bytes on, numbers of two and four bytes, and what is read into a slice. Assumes nothing.
-use Rattle.std.specs.Prelude.{ℕ, zero, suc, ◌+◌, ◌*◌, min, ◌≡◌, List, length, get_or, set, drop, true, ◌==◌, All}
+use Rattle.std.specs.Prelude.{ℕ, zero, suc, ◌+◌, ◌*◌, min, ◌≡◌, List, length, get_or, set, drop, true, ◌==◌}
 use Rattle.std.specs.List.{list_all}
-use Rattle.context.specs.Area.{Rec}
 
 -- k bytes on, and never past the end
 abbrev pub onward : List ℕ → ℕ → ℕ → ℕ
@@ -22,7 +21,3 @@ laid value wide s (suc n) i at l = laid value wide s n (i + 1) (onward s at wide
 -- every number of l from `from` on is x
 abbrev pub Are : List ℕ → ℕ → ℕ → Type 0
 Are l from x = list_all (λ y. y == x) (drop from l) ≡ true
-
--- the records of w hold x twice
-abbrev pub Twice : ℕ → List Rec → Type 0
-Twice x w = All (λ r. (r.formula ≡ x) × (r.term ≡ x)) w

@@ -1,13 +1,14 @@
 #![tactic(auto)]
 // The list of rows that `test_cases` and `test_replay` run, as bytes: numbers of one, three or five bytes, and stretches of words, halves
 // and bytes. Past the end of the list every byte is 0, and no position lies past it, so that no caller owes a bound.
+// A place stays a number beside the list: the definitions in specs/ read a whole list from a place on.
 mod compare;
 mod numbers;
 
 ghost use Rattle.std.specs.Prelude.{◌≡◌, ◌≤◌, ◌<◌, length, get_or};
 ghost use Rattle.test_rows.specs.Bytes.{onward, half_at, word_at};
 
-pub use compare::{all_are, records_are, words_stand};
+pub use compare::{all_are, words_stand};
 pub use numbers::{Number, read};
 
 // The byte at a position.
@@ -29,10 +30,10 @@ pub fn after(list: &[u8], at: usize, k: usize) -> usize
 pub fn half(list: &[u8], at: usize) -> u16
     ensures { result ≡ half_at list.now at }
 {
-    u16::from(byte(list, at)) + 256 * u16::from(byte(list, after(list, at, 1)))
+    u16::from_le_bytes([byte(list, at), byte(list, after(list, at, 1))])
 }
 
-// Four bytes, little-endian.
+// Four bytes, little-endian: two halves, as its definition reads them.
 pub fn word(list: &[u8], at: usize) -> u32
     ensures { result ≡ word_at list.now at }
 {

@@ -1,7 +1,6 @@
 // A house file through the one function from its bytes to the bytes that the program prints.
 ghost use Rattle.std.specs.Prelude.{◌<◌};
 
-use crate::numbers::NO_CALL;
 use crate::{Answer, Call, Row};
 
 fn digit(b: u8) -> usize
@@ -25,7 +24,7 @@ pub fn run(row: Row, text: &mut [u8; crate::MOST_TEXT]) -> Answer {
     Answer {
         call: Call {
             number: refusal(text),
-            ..NO_CALL
+            ..Call::default()
         },
         writer: 0,
         length,

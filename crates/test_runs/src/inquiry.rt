@@ -25,7 +25,7 @@ pub fn answer(
         length: 0,
         checksum: 0,
         kept: crate::search::kept(row, words, terms, rest)
-            && test_rows::records_are(work, u16::from(rest.value))
+            && test_rows::all_are(work, 0, rest.record())
             && test_rows::all_are(text, 0, row.junk()),
     }
 }

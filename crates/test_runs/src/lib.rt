@@ -18,12 +18,12 @@ pub use numbers::Call;
 pub use row::{Field, Kind, Row, again, behind_head};
 
 // The most bytes that come back: what the program prints for a house file.
-pub const MOST_TEXT: usize = 32835;
+pub const MOST_TEXT: usize = house_file::OUTPUT_BYTES;
 
 // One more word, node and record than document 01 lets anyone lend, so that too much can be lent too.
 const MOST_WORDS: usize = 16385;
 
-const MOST_NUMBERS: usize = 98310;
+const MOST_NUMBERS: usize = MOST_WORDS * proof_term::WIDTH;
 
 const MOST_RECORDS: usize = 16385;
 

@@ -6,8 +6,9 @@ ghost use Rattle.test_runs.specs.Told.{call_of, told};
 use call::{NoAnswer, Outcome, Verdict};
 use status::Status;
 
-// The numbers of a call, in document 01's order; of a status, the verdict stands in the root's place.
-#[derive(Clone, Copy, PartialEq, Eq)]
+// The numbers of a call, in document 01's order; of a status, the verdict stands in the root's place. They stay numbers: a list gives what
+// is expected as numbers, and the whole answer is compared with it.
+#[derive(Clone, Copy, PartialEq, Eq, Default)]
 pub struct Call {
     pub number: usize,
     pub place: usize,

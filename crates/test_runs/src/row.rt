@@ -12,6 +12,18 @@ pub enum Kind {
     File,
 }
 
+// A number that is none of the kinds asks for a claim.
+impl From<usize> for Kind {
+    fn from(number: usize) -> Kind {
+        match number {
+            1 => Kind::Term,
+            2 => Kind::Status,
+            3 => Kind::File,
+            _ => Kind::Claim,
+        }
+    }
+}
+
 // The numbers of a row, in their order.
 #[derive(Clone, Copy)]
 pub enum Field {
@@ -46,14 +58,9 @@ impl<'a> Row<'a> {
         test_rows::field(self.list, self.at, field as usize)
     }
 
-    // What the row asks for; a number that is none of the kinds asks for a claim.
+    // What the row asks for.
     pub fn kind(self) -> Kind {
-        match self.field(Field::Kind) {
-            1 => Kind::Term,
-            2 => Kind::Status,
-            3 => Kind::File,
-            _ => Kind::Claim,
-        }
+        Kind::from(self.field(Field::Kind))
     }
 
     // What every lent slice holds where the row gives nothing.

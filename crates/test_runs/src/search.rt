@@ -46,6 +46,17 @@ pub struct Rest {
     pub value: u8,
 }
 
+impl Rest {
+    // What every record of the work area holds.
+    pub fn record(self) -> Record {
+        let x = u16::from(self.value);
+        Record {
+            formula: x,
+            term: x,
+        }
+    }
+}
+
 // Every value there: zero after an answer or a shortage, junk still after a refusal.
 pub fn value_left<T: Copy>(row: Row, outcome: Result<T, NoAnswer>) -> u8 {
     match outcome {
@@ -128,7 +139,7 @@ fn answer(
     let outcome = ask(row, assumed, words, terms, work);
     let rest = left_over(row, outcome);
     let stands = kept(row, words, terms, rest);
-    let cleared = test_rows::records_are(work, u16::from(rest.value));
+    let cleared = test_rows::all_are(work, 0, rest.record());
     let written = write(row, words, terms, outcome, text);
     let right = crate::writer::kept(text, written, row.junk());
     let (writer, length) = crate::writer::told(written);
@@ -167,7 +178,7 @@ fn lend(
     answer(row, assumed, words, terms, work, text)
 }
 
-// Runs a claim, or asks a status, over slices full of junk. They are arrays, since no library takes memory while it runs.
+// Runs a claim, or asks a status, over slices full of junk. They are arrays, since no library that is tested takes memory.
 pub fn run(row: Row, text: &mut [u8]) -> Answer {
     let junk = row.junk();
     let mut assumed = [0u16; MOST_ASSUMPTIONS];

@@ -1,7 +1,6 @@
 // A term through the writer.
 ghost use Rattle.std.specs.Prelude.{◌<◌};
 
-use crate::numbers::NO_CALL;
 use crate::{Answer, Call, Field, MOST_NUMBERS, MOST_WORDS, Row};
 use house_text::{Draft, TextRefusal};
 
@@ -90,12 +89,12 @@ fn answer(row: Row, words: &[u32], terms: &[u16], text: &mut [u8]) -> Answer {
     };
     let written = write(draft, text);
     let (number, length) = told(Some(written));
-    let place = written.given.err().map_or(0, |refusal| refusal.place());
+    let place = written.given.err().map_or(0, TextRefusal::place);
     Answer {
         call: Call {
             number,
             place,
-            ..NO_CALL
+            ..Call::default()
         },
         writer: number,
         length,

@@ -3,5 +3,6 @@ use Rattle.std.proofs.Common.{◌≡◌, ◌-◌}
 use Rattle.test_rows.specs.Bytes.{word_at, laid}
 use Rattle.test_rows.proofs.compare.words_stand.Given as goal
 
-abbrev pub invariant-loop-i : goal.invariant-loop-i
-invariant-loop-i l = laid word_at 4 l.list (l.n - l.i) l.i l.next l.words ≡ laid word_at 4 l.list l.n 0 l.at l.words
+abbrev pub invariant-loop-word : goal.invariant-loop-word
+invariant-loop-word l =
+    laid word_at 4 l.list (l.n - l.word-index) l.word-index l.next l.words ≡ laid word_at 4 l.list l.n 0 l.at l.words
