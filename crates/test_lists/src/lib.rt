@@ -14,7 +14,7 @@ use test_runs::{Book, Row};
 // The most bytes of a list; what a file has behind them is not read.
 const MOST_BYTES: u64 = 524288;
 
-// The list that lies beside a program.
+// The list that lies beside a program. It takes memory, as the test programs may; no library of the prover does.
 pub fn read<R: Files + AllocGlobal>(rt: &R) -> io::Result<Vec<u8>> {
     let mut list = Vec::new(rt.alloc());
     let mut file = fs::open(rt, "list")?.take(MOST_BYTES);
