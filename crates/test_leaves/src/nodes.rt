@@ -14,7 +14,7 @@ fn field<W: Write>(out: &mut W, kind: usize, j: usize) -> io::Result<()> {
         if j < WIDTH {
             numbers[j] = sample;
         }
-        let mut t = [0u16; 18];
+        let mut t = [0u16; 3 * WIDTH];
         put_numbers(&mut t, 2, numbers);
         let bad = refusal::bad_term(&t, 3, 2, 3, b"\x01a");
         write!(out, "{}", letter(bad.is_none()))?;
@@ -46,7 +46,7 @@ fn places<W: Write>(out: &mut W) -> io::Result<()> {
         (12, 7, 11, 0),
     ];
     for (first, second, third, root) in cases {
-        let mut t = [0u16; 18];
+        let mut t = [0u16; 3 * WIDTH];
         put_numbers(&mut t, 0, [first, 0, 0, 0, 0, 0]);
         put_numbers(&mut t, 1, [second, 0, 0, 0, 0, 0]);
         put_numbers(&mut t, 2, [third, 0, 0, 0, 0, 0]);
