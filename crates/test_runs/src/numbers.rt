@@ -53,34 +53,19 @@ pub fn of_outcome(outcome: Outcome) -> Call
     ensures { result ≡ call_of (numbers_of outcome) }
 {
     match outcome {
-        Ok(
-            Verdict::Proved {
-                root,
-                steps,
-                indices,
-                formulas,
-                terms,
-            },
-        ) => Call {
+        Ok(Verdict::Proved { root, used }) => Call {
             root,
-            steps,
-            indices,
-            formulas,
-            terms,
+            steps: used.steps,
+            indices: used.indices,
+            formulas: used.formulas,
+            terms: used.terms,
             ..NO_CALL
         },
-        Ok(
-            Verdict::Unprovable {
-                steps,
-                indices,
-                formulas,
-                terms,
-            },
-        ) => Call {
-            steps,
-            indices,
-            formulas,
-            terms,
+        Ok(Verdict::Unprovable(used)) => Call {
+            steps: used.steps,
+            indices: used.indices,
+            formulas: used.formulas,
+            terms: used.terms,
             ..NO_CALL
         },
         Err(answer) => missed(answer),

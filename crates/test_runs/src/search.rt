@@ -68,14 +68,8 @@ pub fn value_left<T: Copy>(row: Row, outcome: Result<T, NoAnswer>) -> u8 {
 fn left_over(row: Row, outcome: Outcome) -> Rest {
     let value = value_left(row, outcome);
     let (words, numbers) = match outcome {
-        Ok(
-            Verdict::Proved {
-                formulas,
-                terms,
-                ..
-            },
-        ) => (formulas, WIDTH * terms.min(MOST_NUMBERS)),
-        Ok(Verdict::Unprovable { formulas, .. }) => (formulas, 0),
+        Ok(Verdict::Proved { used, .. }) => (used.formulas, WIDTH * used.terms.min(MOST_NUMBERS)),
+        Ok(Verdict::Unprovable(used)) => (used.formulas, 0),
         Err(_) => (row.book.given(), 0),
     };
     Rest {
@@ -103,24 +97,16 @@ fn write(
     outcome: Outcome,
     text: &mut [u8],
 ) -> Option<Written> {
-    let Ok(
-        Verdict::Proved {
-            root,
-            formulas,
-            terms: nodes,
-            ..
-        },
-    ) = outcome
-    else {
+    let Ok(Verdict::Proved { root, used }) = outcome else {
         return None;
     };
     let draft = Draft {
         words,
-        count: formulas,
+        count: used.formulas,
         assumptions: row.book.assumptions(),
         names: row.book.names(),
         terms,
-        nodes,
+        nodes: used.terms,
         root,
     };
     Some(crate::writer::write(draft, text))
