@@ -36,7 +36,7 @@ pub const OUTPUT_BYTES: usize = 32835;
 // Records of the work area.
 const RECORDS: usize = 16384;
 
-// The number of document 01's table for a file that is no house file.
+// The number of document 01's table for a file that is no house file. It is no enum: this is the one refusal that is found here.
 const BAD_FILE: usize = 14;
 
 // The search with the program's work area and step limit. Its parameters stay apart, as `prove::prove` lends them.

@@ -8,7 +8,6 @@ use Rattle.theory.specs.Search.{rule, run}
 use Rattle.meter.specs.declared.State.{State}
 use Rattle.meter.specs.declared.Sequent.{Sequent}
 use Rattle.meter.specs.declared.Limits.{Limits}
-use Rattle.meter.specs.declared.Found.{Found}
 use Rattle.meter.specs.declared.Limit.{Limit}
 use Rattle.meter.specs.declared.Found.{Found}
 use Rattle.meter.specs.declared.Missed.TheVariants.{Failed, Short}
