@@ -16,7 +16,8 @@ use house_sections::Sections;
 use house_text::Draft;
 use meter::State;
 
-// "The program lends 4,096 words, 4,096 nodes, 1,000,000 steps, 32,768 text bytes".
+// "The program lends 4,096 words, 4,096 nodes, 1,000,000 steps, 32,768 text bytes". Its arrays are of these sizes and stand on the stack:
+// it takes no memory.
 const WORDS: usize = 4096;
 
 const NODES: usize = 4096;
