@@ -3,22 +3,22 @@
 //
 // A list is how it was made (a length and so many bytes), how many rows it has, and the rows. What a program adds to a row stands behind
 // the row's own numbers and before its book.
-ghost use Rattle.std.specs.Prelude.{◌≡◌};
+ghost use Rattle.std.specs.Prelude.{◌≡◌, ◌≤◌, IfOk, vec_len};
 ghost use Rattle.std.specs.Iterator.{at_most};
 
-use std::io::Read;
 use std::rt::Files;
 use std::{fs, io};
 use test_runs::{Book, Row};
 
-// The most bytes of a list; what a file has behind them is not read.
-const MOST_BYTES: u64 = 524288;
+// The most bytes of a list; what a file has behind them is left out.
+const MOST_BYTES: usize = 524288;
 
 // The list that lies beside a program. It takes memory, as the test programs may; no library of the prover does.
-pub fn read<R: Files + AllocGlobal>(rt: &R) -> io::Result<Vec<u8>> {
-    let mut list = Vec::new(rt.alloc());
-    let mut file = fs::open(rt, "list")?.take(MOST_BYTES);
-    file.read_to_end(&mut list)?;
+pub fn read<R: Files + AllocGlobal>(rt: &R) -> io::Result<Vec<u8>>
+    ensures { IfOk result (λ list. vec_len list ≤ 524288) }
+{
+    let mut list = fs::read(rt, "list")?;
+    list.truncate(MOST_BYTES);
     Ok(list)
 }
 
@@ -56,6 +56,28 @@ impl<'a, F: Fn(&[u8], usize) -> usize> Rows<'a, F> {
             behind,
         }
     }
+
+    // The row that begins where the one before ended: its book begins at `behind`, or it runs that of the row before and ends there.
+    fn step(&mut self, behind: usize) -> Row<'a>
+        ensures place { result.at ≡ self.old.next }
+        ensures left { self.new.left ≡ self.old.left }
+        ensures behind { self.new.behind ≡ self.old.behind }
+    {
+        let list = self.list;
+        let at = self.next;
+        if test_runs::again(list, at) {
+            self.next = behind;
+        } else {
+            let book = Book { list, at: behind };
+            self.next = book.end();
+            self.book = book;
+        }
+        Row {
+            list,
+            at,
+            book: self.book,
+        }
+    }
 }
 
 impl<'a, F: Fn(&[u8], usize) -> usize> Iterator for Rows<'a, F> {
@@ -65,26 +87,12 @@ impl<'a, F: Fn(&[u8], usize) -> usize> Iterator for Rows<'a, F> {
 
     ghost remaining = { λ s. at_most s.left };
 
-    // A row's book begins behind what is added to the row, or the row runs the book of the one before, and the next row begins there.
     fn next(&mut self) -> Option<Row<'a>> {
         if self.left == 0 {
             return None;
         }
-        let list = self.list;
-        let at = self.next;
-        let behind = (self.behind)(list, at);
-        if test_runs::again(list, at) {
-            self.next = behind;
-        } else {
-            let book = Book { list, at: behind };
-            self.next = book.end();
-            self.book = book;
-        }
+        let behind = (self.behind)(self.list, self.next);
         self.left -= 1;
-        Some(Row {
-            list,
-            at,
-            book: self.book,
-        })
+        Some(self.step(behind))
     }
 }
