@@ -71,8 +71,8 @@ fn answer<R: Read, W: Write>(from: &mut R, out: &mut W) -> Result<(), Failure>
         (λ file. Appends (W.contents out.old) (W.contents out.new) (printed file))) }
 {
     let mut file = [0u8; MOST_READ];
-    let n = read_rest(from, &mut file, 0).map_err(|error| Failure::Reading(error))?;
-    print(out, &file[..n]).map_err(|error| Failure::Writing(error))
+    let n = read_rest(from, &mut file, 0).map_err(Failure::Reading)?;
+    print(out, &file[..n]).map_err(Failure::Writing)
 }
 
 // Says what failed and why. That nobody listens changes no exit status.

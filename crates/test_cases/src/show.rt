@@ -28,10 +28,8 @@ struct Fault(usize);
 impl fmt::Display for Fault {
     fn fmt<W: fmt::Write>(&self, f: &mut fmt::Formatter<W>) -> fmt::Result {
         let number = self.0;
-        let name = FAULTS
-            .get(number.wrapping_sub(1))
-            .copied()
-            .unwrap_or("BadFile");
+        // a number outside the table has no name
+        let name = FAULTS.get(number.wrapping_sub(1)).copied().unwrap_or("?");
         write!(f, "{number} {name}")
     }
 }

@@ -65,7 +65,7 @@ fn replay<W: Write>(out: &mut W, i: usize, row: Row, tally: &mut Tally) -> io::R
 fn replay_all<W: Write>(out: &mut W, list: &[u8]) -> io::Result<()> {
     out.write_all(test_lists::made(list))?;
     writeln!(out)?;
-    let mut tally = tally::EMPTY;
+    let mut tally = Tally::default();
     for (i, row) in Rows::of(list, behind_answer).enumerate() {
         replay(out, i, row, &mut tally)?;
     }

@@ -5,7 +5,7 @@ use test_runs::{Answer, Kind};
 
 // The proofs, the claims without a proof, the files that are not refused, the statuses with a verdict, how often each number of document
 // 01's table came back, the first at 0, and the rows that are as expected or not.
-#[derive(Clone, Copy)]
+#[derive(Clone, Copy, Default)]
 pub struct Tally {
     proved: usize,
     unprovable: usize,
@@ -15,16 +15,6 @@ pub struct Tally {
     pub equal: usize,
     pub different: usize,
 }
-
-pub const EMPTY: Tally = Tally {
-    proved: 0,
-    unprovable: 0,
-    printed: 0,
-    settled: 0,
-    faults: [0; 14],
-    equal: 0,
-    different: 0,
-};
 
 fn one_more(count: &mut usize) {
     *count = count.saturating_add(1);
