@@ -6,19 +6,22 @@
 ghost use Rattle.std.specs.Prelude.{◌≡◌, ◌≤◌, IfOk, vec_len};
 ghost use Rattle.std.specs.Iterator.{at_most};
 
+use std::io::Read;
 use std::rt::Files;
 use std::{fs, io};
 use test_runs::{Book, Row};
 
-// The most bytes of a list; what a file has behind them is left out.
+// The most bytes of a list; what a file has behind them is not read.
 const MOST_BYTES: usize = 524288;
 
 // The list that lies beside a program. It takes memory, as the test programs may; no library of the prover does.
 pub fn read<R: Files + AllocGlobal>(rt: &R) -> io::Result<Vec<u8>>
     ensures { IfOk result (λ list. vec_len list ≤ 524288) }
 {
-    let mut list = fs::read(rt, "list")?;
-    list.truncate(MOST_BYTES);
+    let mut list = Vec::new(rt.alloc());
+    let mut file = fs::open(rt, "list")?.take(MOST_BYTES as u64);
+    file.read_to_end(&mut list)?;
+    list.truncate(MOST_BYTES); // changes nothing: of `take` no clause says how much it gives
     Ok(list)
 }
 

@@ -4,7 +4,7 @@ mod tally;
 
 use std::io;
 use std::io::Write;
-use tally::Tally;
+use tally::{Tally, one_more};
 use test_lists::Rows;
 use test_runs::{Answer, Call, Row};
 
@@ -46,7 +46,7 @@ fn replay<W: Write>(out: &mut W, i: usize, row: Row, tally: &mut Tally) -> io::R
     let answer = test_runs::run(row, &mut text);
     tally.count(row.kind(), answer);
     if answer == expected(row) {
-        tally.equal = tally.equal.saturating_add(1);
+        one_more(&mut tally.equal);
         return Ok(());
     }
     if tally.different < SHOWN {
@@ -57,7 +57,7 @@ fn replay<W: Write>(out: &mut W, i: usize, row: Row, tally: &mut Tally) -> io::R
             "different: row {i} gave number {number}, steps {steps}, text of {length}"
         )?;
     }
-    tally.different = tally.different.saturating_add(1);
+    one_more(&mut tally.different);
     Ok(())
 }
 

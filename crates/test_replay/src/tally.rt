@@ -16,8 +16,14 @@ pub struct Tally {
     pub different: usize,
 }
 
-fn one_more(count: &mut usize) {
-    *count = count.saturating_add(1);
+// A count goes no further than this.
+const MOST: usize = 1000000;
+
+// Counts one more.
+pub fn one_more(count: &mut usize) {
+    if *count < MOST {
+        *count += 1;
+    }
 }
 
 impl Tally {
