@@ -29,7 +29,10 @@ impl fmt::Display for Fault {
     fn fmt<W: fmt::Write>(&self, f: &mut fmt::Formatter<W>) -> fmt::Result {
         let number = self.0;
         // a number outside the table has no name
-        let name = FAULTS.get(number.wrapping_sub(1)).copied().unwrap_or("BadFile");
+        let name = FAULTS
+            .get(number.wrapping_sub(1))
+            .copied()
+            .unwrap_or("BadFile");
         write!(f, "{number} {name}")
     }
 }
