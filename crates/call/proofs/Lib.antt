@@ -1,3 +1,4 @@
+pub mod Refusals
 pub mod Seating
 pub mod Given
 pub mod First

@@ -1,21 +1,22 @@
 -- The whole call: a refused claim changes nothing, and what `closing` leaves of any other is what theory's call leaves. Assumes nothing.
 use Prim.Native.Nat.{ℕ, ◌-◌, ◌≤◌}
-use mathlib.Core.Path.{◌≡◌, refl, sym, ap, ap₂, ◌∙◌}
-use mathlib.Core.Option.{none}
+use mathlib.Core.Path.{◌≡◌, refl, sym, ap, ap₂, ◌∙◌, subst}
+use mathlib.Core.Bool.{Bool, true, false}
+use mathlib.Core.Option.{Option, none, some, some-injective}
 use mathlib.Core.List.{List, map}
 use native.Mathlib.Omega.{arith}
 use lib.ListN.{length, take, replicate}
-use Rattle.theory.specs.Form.{word}
-use Rattle.theory.specs.NameText.{padded}
+use Rattle.theory.specs.Form.{word, bad_word}
+use Rattle.theory.specs.NameText.{padded, bad_name}
 use Rattle.std.specs.Prelude.{Ok, Err}
 use Rattle.theory.specs.Refusal as R
-use Rattle.theory.specs.Refusal.{lack_number}
+use Rattle.theory.specs.Refusal.{lack_number, fault_at, or_else, unless, bad_assumption, bad_goal}
 use Rattle.theory.specs.Meter as M
 use Rattle.theory.specs.Call as C
-use Rattle.theory.specs.Call.{Claim, After, given_words, refusal, records_after, given_back, unchanged, answered, numbers, called}
+use Rattle.theory.specs.Call.{Claim, After, right_sizes, given_words, refusal, records_after, given_back, unchanged, answered, numbers, called}
 use Rattle.theory.specs.Call.{proved, unprovable, shortage, refused}
 use Rattle.theory.proofs.Passing.{passes}
-use Rattle.theory.proofs.Called.{passed_call, refused_call}
+use Rattle.theory.proofs.Called.{passed_call, refused_call, is_refused}
 use Rattle.refusal.specs.declared.Refusal.{Refusal}
 use Rattle.refusal.specs.declared.Refusal.TheVariants as OfInput
 use Rattle.refusal.specs.Table.{refusal_of, refused_by}
@@ -94,7 +95,7 @@ broken_back (OfInput.BadNames i) = refl
 broken_back (OfInput.BadGoal i) = refl
 broken_back (OfInput.BadTerm i) = refl
 
-back : C.Outcome → Outcome
+unfoldable pub back : C.Outcome → Outcome
 back (proved r n u f t) = Ok (Proved r (record { steps = n; indices = u; formulas = f; terms = t }))
 back (unprovable n u f t) = Ok (Unprovable (record { steps = n; indices = u; formulas = f; terms = t }))
 back (shortage l n) = Err (Short (limit_of l) n)
@@ -106,6 +107,54 @@ back_is (Ok (Proved r s)) = refl
 back_is (Ok (Unprovable s)) = refl
 back_is (Err (Short l n)) = rw (lack_back l)
 back_is (Err (Refused r)) = rw (broken_back r)
+
+-- a claim is refused only for what the code has a name for
+abbrev Named : R.Refused → Type 0
+Named r = refusal_of (broken r.fault r.place) ≡ r
+
+named_first : {later : Option R.Refused} {r : R.Refused} (f : R.Fault) → ((i : ℕ) → Named (record { fault = f; place = i })) →
+    (later ≡ some r → Named r) → (o : Option ℕ) → or_else (fault_at f o) later ≡ some r → Named r
+unfolding or_else fault_at
+named_first f here h none e = h e
+named_first {r = r} f here h (some i) e = subst Named (some-injective _ r e) (here i)
+
+named : (x : Claim) {r : R.Refused} → refusal x ≡ some r → Named r
+unfolding refusal or_else fault_at unless broken
+named x {r} = sizes (right_sizes x)
+  where
+    goal : (o : Option ℕ) → fault_at R.BadGoal o ≡ some r → Named r
+    goal none e = cc
+    goal (some i) e = subst Named (some-injective _ r e) refl
+
+    sizes : (b : Bool) → or_else (fault_at R.Sizes (unless b))
+        (or_else (fault_at R.BadFormula (bad_word (given_words x)))
+        (or_else (fault_at R.BadAssumption (bad_assumption x.count x.assumed))
+        (or_else (fault_at R.BadNames (bad_name (length x.assumed) x.text)) (fault_at R.BadGoal (bad_goal x.count x.goal))))) ≡ some r → Named r
+    sizes true e =
+        named_first R.BadFormula (λ i. refl)
+        (named_first R.BadAssumption (λ i. refl)
+        (named_first R.BadNames (λ i. refl) (goal (bad_goal x.count x.goal)) (bad_name (length x.assumed) x.text))
+        (bad_assumption x.count x.assumed))
+        (bad_word (given_words x)) e
+    sizes false e = subst Named (some-injective _ r e) refl
+
+-- so each outcome that theory's call comes to is one of the code's, with theory's numbers
+pub refused_back : (x : Claim) {f : R.Fault} {i : ℕ} → (called x).outcome ≡ refused f i →
+    refusal_of (broken f i) ≡ record { fault = f; place = i }
+refused_back x e = named x (is_refused x e).is
+
+pub outcome_back : (x : Claim) → outcome_of (back (called x).outcome) ≡ (called x).outcome
+unfolding outcome_of back
+outcome_back x = go (called x).outcome refl
+  where
+    go : (o : C.Outcome) → (called x).outcome ≡ o → outcome_of (back o) ≡ o
+    go (proved r n u f t) e = refl
+    go (unprovable n u f t) e = refl
+    go (shortage l n) e = ap (λ (k : M.Lack). shortage k n) (lack_limit l)
+    go (refused f i) e = ap (λ (r : R.Refused). refused r.fault r.place) (refused_back x e)
+
+pub numbers_back : (x : Claim) → numbers_of (back (called x).outcome) ≡ numbers (called x).outcome
+numbers_back x = numbers_as (back (called x).outcome) (outcome_back x)
 
 pub outcome_once : (o o' : Outcome) → outcome_of o ≡ outcome_of o' → o ≡ o'
 outcome_once o o' e = sym (back_is o) ∙ ap back e ∙ back_is o'

@@ -1,3 +1,4 @@
+pub mod Table
 pub mod Walks
 pub mod Room
 pub mod NameWalk

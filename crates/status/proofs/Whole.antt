@@ -11,7 +11,10 @@ use Rattle.theory.specs.Status.{settled, ran_short, rejected, status_numbers, ju
 use Rattle.theory.specs.Status.{Asked, cleaned_up, asked}
 use Rattle.theory.proofs.StatusCalls.{status_by, asked_refused, asked_cleaned}
 use Rattle.theory.proofs.Called.{proves, fails, runs_short, is_refused}
-use Rattle.theory.proofs.CallClaims.{lengths_kept, given_kept, records_zero, records_kept}
+use Rattle.theory.proofs.CallClaims.{lengths_kept, given_kept, records_zero, records_kept, status_says}
+use Rattle.theory.specs.Owed.{Says}
+use Rattle.theory.specs.Meter.{Lack}
+use Rattle.theory.specs.Refusal as R
 use Rattle.context.specs.Area.{Rec, zeroed}
 use Rattle.std.specs.Prelude.{Result, Ok, Err, IsErr, IsErrAnd}
 use Rattle.std.proofs.lemmas.Result.{err_from_is_err_and}
@@ -22,7 +25,7 @@ use Rattle.call.specs.Outcomes.{Outcome, outcome_of}
 use Rattle.call.specs.Lent.{claim_of}
 use Rattle.call.specs.Whole.{Called}
 use Rattle.call.proofs.Whole as W
-use Rattle.call.proofs.Whole.{lack_back, broken, broken_back}
+use Rattle.call.proofs.Whole.{lack_back, lack_limit, broken, broken_back, refused_back}
 use Rattle.meter.specs.declared.State.{State}
 use Rattle.meter.specs.Moves.{limit_of}
 use Rattle.status.specs.declared.Status.TheVariants.{Solvable, Unsolvable, Unknown}
@@ -152,7 +155,7 @@ pub carried : {A : Type 0} {e : NoAnswer} {r : Result A NoAnswer} → IsErr r ×
 carried {r = r} h = let found = err_from_is_err_and r h.1 in found.1 ∙ ap Err found.2
 
 -- no other answer is the same status of theory's
-back : S.Status → Answer
+unfoldable pub back : S.Status → Answer
 back (settled S.Solvable) = Ok Solvable
 back (settled S.Unsolvable) = Ok Unsolvable
 back (settled S.Unknown) = Ok Unknown
@@ -166,6 +169,21 @@ back_is (Ok Unsolvable) = refl
 back_is (Ok Unknown) = refl
 back_is (Err (Short l n)) = rw (lack_back l)
 back_is (Err (Refused r)) = rw (broken_back r)
+
+-- and each status that theory's call comes to is one of the code's answers, with theory's numbers
+pub status_back : (x : Inquiry) → status_of (back (asked x).status) ≡ (asked x).status
+unfolding status_of back outcome_of
+status_back x = go (asked x).status (status_says x)
+  where
+    go : (s : S.Status) → Says x s → status_of (back s) ≡ s
+    go (settled S.Solvable) h = refl
+    go (settled S.Unsolvable) h = refl
+    go (settled S.Unknown) h = refl
+    go (ran_short l n) h = ap (λ (k : Lack). ran_short k n) (lack_limit l)
+    go (rejected f i) h = ap (λ (r : R.Refused). rejected r.fault r.place) (refused_back (first_claim x) h)
+
+pub numbers_back : (x : Inquiry) → numbers_of (back (asked x).status) ≡ status_numbers (asked x).status
+numbers_back x = numbers_as (back (asked x).status) (status_back x)
 
 status_once : (s s' : Answer) → status_of s ≡ status_of s' → s ≡ s'
 status_once s s' e = sym (back_is s) ∙ ap back e ∙ back_is s'
