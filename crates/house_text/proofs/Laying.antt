@@ -1,7 +1,7 @@
 -- Laws of laying pieces into a buffer: a byte, nothing, a piece that has no room, and one piece behind another. Assumes nothing.
 use Prim.Native.Nat.{ℕ, ◌+◌, ◌/◌, ◌%◌, ◌≤◌, ◌<◌}
 use mathlib.Core.Path.{◌≡◌, refl, sym, ap, ap₂, subst, ◌∙◌}
-use mathlib.Core.Logic.{◌⊎◌}
+use mathlib.Core.Logic.{◌⊎◌, inr}
 use mathlib.Core.Bool.{Bool, true, false}
 use mathlib.Core.Option.{Option, none, some}
 use mathlib.Core.List.{List, [], ◌∷◌, ◌++◌, append_assoc, append-nil}
@@ -9,8 +9,8 @@ use native.Mathlib.Numerals.{add-one}
 use native.Mathlib.Omega.{arith}
 use borrow.Author.Tests.{le-leb, lt-leb, leb-true, leb-false}
 use lib.Dec.{leb}
-use lib.ListN.{length, get_or, take, drop, take-append-drop, length-append}
-use lib.Seq.{length-take-le, take_all, take-suc}
+use lib.ListN.{length, get_or, take, drop, set, take-append-drop, length-append, length-set}
+use lib.Seq.{length-take-le, take_all, take-suc, take-suc-set}
 use Rattle.theory.specs.Text.{decimal}
 use Rattle.theory.proofs.TextWriting.{decimal_one, decimal_last}
 use Rattle.house_text.specs.Laid.{joined, within, front_of, InRoom, Laid}
@@ -160,6 +160,17 @@ laid_text x b b₁ at h l e =
           ∙ sym (ap (λ (s : Text). within (length b) (joined s (some x))) (front_at b at (omega arith)));
       inside = λ k. h;
     }
+
+module _ (b : List ℕ) (at x : ℕ) where
+  -- a byte that has room
+  pub laid_byte : at < length b → Laid (some (x ∷ [])) b at (set b at x) (Some (at + 1))
+  laid_byte h =
+      laid_text (x ∷ []) b (set b at x) at (omega arith) (length-set b at x)
+      (ap (λ (n : ℕ). take n (set b at x)) (add-one at) ∙ take-suc-set b at x h)
+
+  -- a byte that has none
+  pub laid_no_byte : length b ≤ at → Laid (some (x ∷ [])) b at b None
+  laid_no_byte h = laid_no_room (x ∷ []) b at (inr (omega arith))
 
 -- a text laid byte by byte: one byte more, the last, and one that has no room
 module _ (x : List ℕ) (i : ℕ) {b b₁ : List ℕ} {at at₁ : ℕ} (g : Laid (some (take i x)) b at b₁ (Some at₁)) where

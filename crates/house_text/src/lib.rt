@@ -37,22 +37,27 @@ pub struct Draft<'a> {
 // Each function that lays a piece returns the next place; there is none where the text has no room, and then nothing more is laid.
 // The buffer and the place are no struct: after a shared read of a `&mut` field nothing is known of its elements.
 
-// The bytes of a text. For the program's lines too.
-pub fn lay(buf: &mut [u8], at: usize, text: &[u8]) -> Option<usize>
-    ensures { Laid (some text.now) buf.old at buf.new result }
-{
-    let end = at.checked_add(text.len())?;
-    if buf.len() < end {
-        return None;
-    }
-    buf[at..end].copy_from_slice(text);
-    Some(end)
-}
-
 fn lay_byte(buf: &mut [u8], at: usize, b: u8) -> Option<usize>
     ensures { Laid (some (b ∷ [])) buf.old at buf.new result }
 {
-    lay(buf, at, &[b])
+    if buf.len() <= at {
+        return None;
+    }
+    buf[at] = b;
+    Some(at + 1)
+}
+
+// The bytes of a text. For the program's lines too.
+// One by one, each with its test: a copy of the whole slice was compiled to a call of `memmove` where this is inlined, and of the C library
+// our crates call `memcpy` and `memset` alone.
+pub fn lay(buf: &mut [u8], at: usize, text: &[u8]) -> Option<usize>
+    ensures { Laid (some text.now) buf.old at buf.new result }
+{
+    let mut next = at;
+    for i in 0..text.len() {
+        next = lay_byte(buf, next, text[i])?;
+    }
+    Some(next)
 }
 
 // A number in decimal. For symbols and counts, which have at most seven digits.

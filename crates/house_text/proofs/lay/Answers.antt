@@ -1,31 +1,22 @@
--- `lay` copies the text where it has room. Assumes nothing.
-use mathlib.Core.Path.{ap, ◌∙◌}
-use mathlib.Core.List.{◌++◌}
-use mathlib.Core.Logic.{inr}
-use Prim.Native.Nat.{◌+◌}
+-- `lay` has laid the bytes before `i`. Assumes nothing.
 use native.Mathlib.Omega.{arith}
-use lib.ListN.{length, take}
-use Rattle.std.proofs.lemmas.Slice.{take-put_mid}
-use Rattle.std.proofs.lemmas.Slice.{overwrites}
-use Rattle.std.proofs.Common.{rules}
-use Rattle.house_text.proofs.Laying.{laid_no_room, laid_text}
+use Rattle.house_text.proofs.Laying.{laid_nothing, laid_next, laid_whole, laid_short}
 use Rattle.house_text.proofs.lay.Goals as goal
 
-pub returns-in_err-end : goal.returns-in_err-end
-returns-in_err-end c =
-    let late = c.in_err-end.ensures in
-    rw c.from_residual.ensures (laid_no_room c.args.text.now c.args.buf.now c.args.at (inr (omega (arith, late))))
+pub loop-i-init : goal.loop-i-init
+loop-i-init c =
+    laid_nothing c.args.buf.now c.args.at
 
-pub returns-then-buf-end : goal.returns-then-buf-end
-returns-then-buf-end c =
-    let sum = c.in_ok-end.ensures in
-    laid_no_room c.args.text.now c.args.buf.now c.args.at (inr (omega (arith, sum.1)))
+pub returns-in_err-next : goal.returns-in_err-next
+returns-in_err-next c =
+    let turn = c.loop-i in
+    rw c.from_residual.ensures (laid_short c.args.text.now turn.i turn.invariant (omega arith) c.in_err-next.ensures)
+
+pub loop-i-preserved : goal.loop-i-preserved
+loop-i-preserved c =
+    let turn = c.loop-i in
+    laid_next c.args.text.now turn.i turn.invariant (omega arith) c.in_ok-next.ensures
 
 pub returns : goal.returns
 returns c =
-    let b = c.args.buf.now in
-    let at = c.args.at in
-    let x = c.args.text.now in
-    let sum = c.in_ok-end.ensures in
-    rw sum.1 (laid_text x b _ at (omega (arith, sum.1)) (search (rules, overwrites))
-    (take-put_mid at _ b _ (at + length x) (omega arith) (omega arith) ∙ ap (λ t. take at b ++ t) c.copy_from_slice.ensures.after))
+    laid_whole c.args.text.now c.loop-i.i c.loop-i.invariant (omega arith)
