@@ -1,7 +1,7 @@
 -- The walks over the unordered records, one record on. Assumes nothing.
 use Prim.Native.Nat.{ℕ, zero, suc, ◌+◌, ◌*◌, ◌≤◌, ◌<◌}
 use mathlib.Core.Path.{◌≡◌, refl, sym, ap, ap₂, ◌∙◌, subst}
-use mathlib.Core.Bool.{Bool, true, false, not, ◌&&◌, cond}
+use mathlib.Core.Bool.{Bool, true, false, not, cond}
 use mathlib.Core.List.{List}
 use native.Mathlib.Omega.{arith}
 use native.Mathlib.Numerals.{add-one}
@@ -13,13 +13,12 @@ use Rattle.std.specs.declared.option.Option.{Option}
 use Rattle.std.specs.List.{position_or_len, range_with_len, count_by, sum_by}
 use Rattle.std.proofs.lemmas.List.FromFn.{length-range_with_len, sum_by-map-range_with_len_more}
 use Rattle.std.proofs.lemmas.List.Sums.{sum-map}
-use Rattle.theory.specs.Form.{kind_of}
 use Rattle.theory.specs.Term.{app, six_of}
 use Rattle.proof_term.specs.Put.{put_node}
 use Rattle.formula.specs.declared.Kind.{Kind}
 use Rattle.formula.specs.declared.Kind.TheVariants.{Impl}
 use Rattle.formula.specs.Kinds.{kind_named}
-use Rattle.formula.specs.Leaves.{leaf_kind, equal_leaves}
+use Rattle.formula.specs.Leaves.{equal_leaves}
 use Rattle.formula.proofs.KindLaws.{is_kind, not_kind}
 use Rattle.meter.specs.declared.Sequent.{Sequent}
 use Rattle.context.specs.Moves.{stretch, without}
@@ -49,22 +48,17 @@ pub nowhere : {n r : ℕ} → r ≡ n → None ≡ below n r
 unfolding below
 nowhere {n} {r} e = sym (ap (λ (b : Bool). cond b (Some r) None) (le-ltb r n (omega arith)))
 
--- the word of unordered record i of level l is v
+-- unordered record i of level l is the leaf with word v
 abbrev pub stands : List ℕ → List Rec → ℕ → ℕ → ℕ → Bool
-stands f w l v i = eqb v (word_in f w l i)
+stands f w l v i = equal_leaves v (word_in f w l i)
 
--- a leaf's place is the first record with its word
-module _ (f : List ℕ) (w : List Rec) (l v : ℕ) (leaf : leaf_kind (kind_of v) ≡ true) where
-  same_word : (i : ℕ) → equal_leaves v (word_in f w l i) ≡ stands f w l v i
-  unfolding equal_leaves
-  same_word i = ap (λ (b : Bool). b && eqb v (word_in f w l i)) leaf
-
+-- a leaf's place is the first record that is this leaf
+module _ (f : List ℕ) (w : List Rec) (l v : ℕ) where
   first_of : (i k : ℕ) → leaf_from f w l v i k ≡ i + position_or_len (stands f w l v) (range_with_len i k)
   unfolding leaf_from
   first_of i zero = omega arith
   first_of i (suc k) =
-      ap (λ (b : Bool). elim b [ true ↦ i | false ↦ leaf_from f w l v (suc i) k ]) (same_word i)
-      ∙ go (stands f w l v i) (ap (λ (j : ℕ). leaf_from f w l v j k) (sym (add-one i)) ∙ first_of (i + 1) k)
+      go (stands f w l v i) (ap (λ (j : ℕ). leaf_from f w l v j k) (sym (add-one i)) ∙ first_of (i + 1) k)
     where
       go : (b : Bool) → leaf_from f w l v (suc i) k ≡ i + 1 + position_or_len (stands f w l v) (range_with_len (i + 1) k) →
           elim b [ true ↦ i | false ↦ leaf_from f w l v (suc i) k ] ≡

@@ -33,8 +33,12 @@ fn find_leaf(words: &[u32], work: &[Record], sequent: Sequent, leaf: u32) -> Opt
         return None;
     }
     let first = sequent.level * STRETCH;
-    (0..sequent.unordered).position(|i| leaf
-        == formula::word(words, context::formula_at(work, first + i)))
+    (0..sequent.unordered).position(|i| {
+        formula::equal_leaves(
+            leaf,
+            formula::word(words, context::formula_at(work, first + i)),
+        )
+    })
 }
 
 // The place of the leaf that lets unordered record i fire, where it is leaf→B and the leaf is present.

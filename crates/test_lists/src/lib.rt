@@ -3,7 +3,7 @@
 //
 // A list is how it was made (a length and so many bytes), how many rows it has, and the rows. What a program adds to a row stands behind
 // the row's own numbers and before its book.
-ghost use Rattle.std.specs.Prelude.{◌≡◌, ◌≤◌, IfOk, vec_len};
+ghost use Rattle.std.specs.Prelude.{◌≡◌, ◌≤◌, IfOk, IfSome, vec_len};
 ghost use Rattle.std.specs.Iterator.{at_most};
 
 use std::io::Read;
@@ -87,6 +87,8 @@ impl<'a, F: Fn(&[u8], usize) -> usize> Iterator for Rows<'a, F> {
     type Item = Row<'a>;
 
     ghost can_next = { λ s. F.IsAlwaysCallable s.behind };
+
+    ghost next_gives = { λ before row after. IfSome row (λ r. r.at ≡ before.next) };
 
     ghost remaining = { λ s. at_most s.left };
 

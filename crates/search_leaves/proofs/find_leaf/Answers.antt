@@ -1,6 +1,6 @@
--- The place of a leaf is the first one with its word. Assumes nothing.
+-- The place of a leaf is that of the first record that is it. Assumes nothing.
 use mathlib.Core.Path.{◌≡◌, refl, ◌∙◌}
-use mathlib.Core.Bool.{true, false}
+use mathlib.Core.Bool.{false}
 use native.Mathlib.Omega.{arith}
 use Rattle.std.proofs.Common.{rules, tests}
 use Rattle.std.proofs.lemmas.Iterator.{YieldsList-from_range}
@@ -22,8 +22,7 @@ pub returns : goal.returns
 returns c =
     let a = c.args in
     let q = c.args.sequent in
-    let leaf : leaf_kind (kind_of a.leaf) ≡ true = cc (leaf_named (kind_of a.leaf)) in
     position_from_yields_List (stands a.words.now a.work.now q.level a.leaf) _ _ c.position.result c.position.ensures.ran
     (YieldsList-from_range 0 q.unordered q.unordered refl (omega arith))
     (λ x b q k. search (rules, tests))
-    ∙ found_at a.words.now a.work.now q.level a.leaf leaf q.unordered
+    ∙ found_at a.words.now a.work.now q.level a.leaf q.unordered
