@@ -19,6 +19,9 @@ const MOST_BYTES: usize = 32;
 // The letters of the alphabet.
 const LETTERS: usize = 26;
 
+// How many digits in base 26 the largest number has.
+const DIGITS: usize = 14;
+
 // How many letters index `i` has.
 pub fn letter_count(i: usize) -> usize
     ensures { result ≡ length (spell i) }
@@ -33,7 +36,8 @@ fn digit(i: usize, k: usize) -> usize
     let mut power: usize = 1;
     // `_passed` is named for the invariant
     for _passed in 0..k {
-        if i / LETTERS < power {
+        // the first test spares the front letters of a long name the powers
+        if DIGITS <= k || i / LETTERS < power {
             return 0;
         }
         power *= LETTERS;
@@ -63,12 +67,13 @@ fn spells(i: usize, name: &[u8]) -> bool
 pub fn entry_size(text: &[u8]) -> Option<usize>
     ensures { result ≡ entry_size text.now }
 {
-    let (first, rest) = text.split_first()?;
-    let size = usize::from(*first);
-    if rest.len() < size {
+    // `_rest` is named for the proof
+    let (first, _rest) = text.split_first()?;
+    let size = usize::from(*first) + 1;
+    if text.len() < size {
         return None;
     }
-    Some(size + 1)
+    Some(size)
 }
 
 // The names of a text, one after the other, up to the first entry that is cut or missing.
@@ -124,11 +129,18 @@ fn well_spelled(name: &[u8]) -> bool
     !name.is_empty() && name.len() <= MOST_BYTES && name.iter().all(|b| name_byte(*b))
 }
 
+// Whether two names are the same. The first bytes before all: most names differ there, and `==` costs more.
+fn alike(a: &[u8], b: &[u8]) -> bool
+    ensures { result ≡ same a.now b.now }
+{
+    a.len() == b.len() && a.first() == b.first() && a == b
+}
+
 // Whether an assumption may carry `name` where the names of `earlier` are given already.
 pub fn lawful(name: &[u8], earlier: &[u8]) -> bool
     ensures { result ≡ lawful_after (names_in earlier.now) name.now }
 {
-    !Names(earlier).any(|other| name == other) && well_spelled(name)
+    !Names(earlier).any(|other| alike(name, other)) && well_spelled(name)
 }
 
 // From where to where the bytes of entry `k` of `text` stand, if no entry up to it is cut or missing.

@@ -10,9 +10,7 @@ use lib.ListN.{length, get_or, get_or-map, take, drop, set, length-set, length-a
 use lib.Seq.{sets, length-sets, sets-eq, get_or-set_same, get_or-set_other, take-set-le, drop-set-lt}
 use lib.Seq.{get_or-take, get_or-drop, take_at, take_all, length-take-le, paste}
 use borrow.Author.Tests.{lt-ltb, le-ltb}
-use borrow.Rule.Slice.PartMut.{put_mid}
-use Rattle.std.proofs.lemmas.Grind.{same_number_lists}
-use Rattle.std.proofs.lemmas.Slice.{put_mid-paste}
+use Rattle.std.proofs.lemmas.List.Edits.{paste_more}
 use Rattle.theory.specs.Layout.{node_width}
 use Rattle.proof_term.specs.Put.{low, put_node}
 
@@ -25,21 +23,21 @@ pub put_no_room : (t : List ℕ) (n : ℕ) (xs : List ℕ) → length t / node_w
 unfolding put_node
 put_no_room t n xs h = rw (le-ltb n (length t / node_width) h, put_node)
 
--- six numbers laid over a node's place, each its own low bits, are a written node
-pub put_laid : (t : List ℕ) (n : ℕ) (xs ys : List ℕ) → n < length t / node_width → length xs ≡ node_width → length ys ≡ node_width →
-    ((k : ℕ) → k < node_width → get_or ys k 0 ≡ low (get_or xs k 0)) →
-    put_mid (n * node_width) (n * node_width + node_width - n * node_width) t ys ≡ put_node t n xs
-put_laid t n xs ys h w l e =
-    let long : length (map low xs) ≡ node_width = length-map xs low ∙ w in
-    let same : ys ≡ map low xs =
-    same_number_lists ys (map low xs) (l ∙ sym long) (λ k b. e k (omega arith) ∙ sym (get_or-map low xs k 0)) in
-    let laid : paste t (n * node_width) (map low xs) (length (map low xs)) ≡ put_node t n xs =
-    ap (λ (zs : List ℕ). take (n * node_width) t ++ zs ++ drop (n * node_width + length (map low xs)) t)
-    (take_all (length (map low xs)) (map low xs) (omega arith))
-    ∙ sym (put_room t n xs h ∙ sets-eq (map low xs) t (n * node_width) (omega arith)) in
-    put_mid-paste (n * node_width) (n * node_width + node_width - n * node_width) t ys (map low xs) node_width same (omega arith) (sym long)
-    ∙ ap (paste t (n * node_width) (map low xs)) (sym long)
-    ∙ laid
+-- a loop that stores the low bits of six numbers over a node's place
+module _ (t : List ℕ) (n : ℕ) (xs : List ℕ) (h : n < length t / node_width) (w : length xs ≡ node_width) where
+  pub store_more : (k v : ℕ) → k < node_width → v ≡ low (get_or xs k 0) →
+      set (paste t (n * node_width) (map low xs) k) (n * node_width + k) v ≡ paste t (n * node_width) (map low xs) (k + 1)
+  store_more k v l e =
+      ap (set (paste t (n * node_width) (map low xs) k) (n * node_width + k)) (e ∙ sym (get_or-map low xs k 0))
+      ∙ paste_more t (n * node_width) (map low xs) k 0 (omega arith) (rw (length-map, w) l)
+
+  pub put_laid : (k : ℕ) → k ≡ node_width → paste t (n * node_width) (map low xs) k ≡ put_node t n xs
+  put_laid k e =
+      let ys : List ℕ = map low xs in
+      let long : k ≡ length ys = e ∙ sym w ∙ sym (length-map xs low) in
+      ap (paste t (n * node_width) ys) long
+      ∙ ap (λ (zs : List ℕ). take (n * node_width) t ++ zs ++ drop (n * node_width + length ys) t) (take_all (length ys) ys (omega arith))
+      ∙ sym (put_room t n xs h ∙ sets-eq ys t (n * node_width) (omega arith))
 
 -- what holds of a list and of the list after a run of stores holds after a node is written, room or not
 either : (P : List ℕ → Type 0) (t : List ℕ) (n : ℕ) (xs : List ℕ) → P t → P (sets t (n * node_width) (map low xs)) → P (put_node t n xs)

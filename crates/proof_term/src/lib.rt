@@ -138,8 +138,11 @@ pub fn put_numbers(terms: &mut [u16], n: usize, numbers: [usize; WIDTH])
 {
     if n < terms.len() / WIDTH {
         let at = n * WIDTH;
-        // `as` stays: the low 16 bits are meant, and `From` and `TryFrom` cut no number down
-        terms[at..at + WIDTH].copy_from_slice(&numbers.map(|x| (x % 65536) as u16));
+        // One by one: an array of the six, copied as a whole, is read back from the stack in wider pieces, and each waits for its stores.
+        for (k, x) in numbers.iter().enumerate() {
+            // `as` stays: the low 16 bits are meant, and `From` and `TryFrom` cut no number down
+            terms[at + k] = (*x % 65536) as u16;
+        }
     }
 }
 
