@@ -19,7 +19,7 @@ ghost use Rattle.call.specs.Lent.{claim_of};
 ghost use Rattle.call.specs.Start.{Ends};
 ghost use Rattle.call.specs.Whole.{Called};
 
-use call::Outcome;
+use call::{NoAnswer, Outcome};
 use context::Record;
 use formula::{Kind, kind_at, left_at, right_at};
 use identifier_generator::GENERATED;
@@ -401,7 +401,11 @@ pub fn prove(
     ensures { Called (claim_of words.old count assumed.now names.now goal terms.old
         (length work.old) steps) work.old result words.new terms.new work.new }
 {
-    call::test_claim(words, count, assumed, names, goal, terms, work.len(), steps)?;
+    // by hand and not by `?`, which leaves no value to change for an edit that tells a refusal as a shortage
+    let tested = call::test_claim(words, count, assumed, names, goal, terms, work.len(), steps);
+    if let Err(refused) = tested {
+        return Err(NoAnswer::Refused(refused));
+    }
     let answer = start(words, terms, work, names, assumed, count, goal, steps);
     call::closing(words, terms, work, count, answer)
 }

@@ -14,9 +14,7 @@ index_in c =
 
 pub number_at-requires-clause-inside : goal.number_at-requires-clause-inside
 number_at-requires-clause-inside c =
-    let inside = index_in (goal.at.number_at-requires-clause-inside c).In-loop-i in
-    let h : c.loop-i.at + 2 ≤ length c.args.file.now = omega arith in
-    h
+    omega (arith, index_in (goal.at.number_at-requires-clause-inside c).In-loop-i)
 
 pub bounds-file-at : goal.bounds-file-at
 bounds-file-at c = index_in (goal.at.bounds-file-at c).In-loop-i
